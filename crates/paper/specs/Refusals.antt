@@ -1,0 +1,75 @@
+-- "Where an answer is an enum, a definition gives this paper's number and values for each of its cases."
+use mathlib.Core.Bool.{Bool, true, false}
+use mathlib.Core.List.{List, [], _∷_}
+use Prim.Native.Nat.{ℕ, _+_}
+use Rattle.paper.specs.First.{First, nowhere, at}
+use Rattle.paper.specs.declared.Refusal.{Refusal}
+use Rattle.paper.specs.declared.Refusal.the-variants.{Shape, Stray, OffCode, OffMessage, DependentG0, DependentH, Message, Stuck, NoWord, ReadWord, Limit, NoCodeword}
+use Rattle.paper.specs.declared.Admission.{Admission}
+use Rattle.paper.specs.declared.Admission.the-variants as Admission
+use Rattle.paper.specs.declared.Written.{Written}
+use Rattle.paper.specs.declared.Written.the-variants as Written
+use Rattle.paper.specs.declared.Reading.{Reading}
+use Rattle.paper.specs.declared.Reading.the-variants as Reading
+use Rattle.paper.specs.declared.MeasuredD0.{MeasuredD0}
+use Rattle.paper.specs.declared.MeasuredD0.the-variants as MeasuredD0
+use Rattle.paper.specs.declared.MeasuredD1.{MeasuredD1}
+use Rattle.paper.specs.declared.MeasuredD1.the-variants as MeasuredD1
+
+-- what a call tells: its values; for a measurement also "more than the cap" and its values; or a refusal's number and what is given with it
+pub data Told : Type 0 where
+  answer : List ℕ → Told
+  more : List ℕ → Told
+  refusal : ℕ → List ℕ → Told
+
+-- "When the box says no": each reason's number, and what is given with it
+abbrev pub refused : Refusal → Told
+refused Shape = refusal 1 []
+refused (Stray row) = refusal 2 (row ∷ [])
+refused (OffCode row) = refusal 3 (row ∷ [])
+refused (OffMessage row) = refusal 4 (row ∷ [])
+refused (DependentG0 row) = refusal 5 (row ∷ [])
+refused (DependentH row) = refusal 6 (row ∷ [])
+refused Message = refusal 7 []
+refused (Stuck cell) = refusal 8 (cell ∷ [])
+refused NoWord = refusal 9 []
+refused (ReadWord cell) = refusal 10 (cell ∷ [])
+refused Limit = refusal 11 []
+refused (NoCodeword tried) = refusal 12 (tried ∷ [])
+
+-- what an admission tells
+abbrev pub admission : Admission → Told
+admission Admission.Admitted = answer []
+admission (Admission.Refused why) = refused why
+
+-- what a write tells: "the fitting word .. and that d"
+abbrev pub written : Written → Told
+written (Written.Word word d) = answer (word ∷ d ∷ [])
+written (Written.Refused why) = refused why
+
+-- what a read tells: "the message of y + z, z itself, and how many listed words were tried"
+abbrev pub reading : Reading → Told
+reading (Reading.Message message z tried) = answer (message ∷ z ∷ tried ∷ [])
+reading (Reading.Refused why) = refused why
+
+-- what a measurement of d0 tells: "the distance, or "more than the cap", and the number tried"
+abbrev pub measuredD0 : MeasuredD0 → Told
+measuredD0 (MeasuredD0.Distance d tried) = answer (d ∷ tried ∷ [])
+measuredD0 (MeasuredD0.More tried) = more (tried ∷ [])
+measuredD0 (MeasuredD0.Refused why) = refused why
+
+-- what a measurement of d1 tells: it "also answers the radius to print on the plate"
+abbrev pub measuredD1 : MeasuredD1 → Told
+measuredD1 (MeasuredD1.Distance d tried radius) = answer (d ∷ tried ∷ radius ∷ [])
+measuredD1 (MeasuredD1.More tried radius) = more (tried ∷ radius ∷ [])
+measuredD1 (MeasuredD1.Refused why) = refused why
+
+-- "Each refusal is given exactly when its reason holds and no earlier one in the call's order does": a rule that holds passes to the next
+abbrev pub unless : Bool → ℕ → Told → Told
+unless true number next = next
+unless false number next = refusal number []
+
+-- the same for a rule that is broken at a place: the first such place, counted from `base`, is given with the refusal
+abbrev pub unlessAt : First → ℕ → ℕ → Told → Told
+unlessAt nowhere number base next = next
+unlessAt (at i) number base next = refusal number ((base + i) ∷ [])
