@@ -3,11 +3,14 @@
 use mathlib.Core.Path.{_≡_, refl, sym, ap, _∙_}
 use mathlib.Core.Logic.{_⊎_, inl, inr, ⊎-elim}
 use Prim.Native.Nat.{ℕ, zero, suc, _+_, _-_, _*_, _/_, _%_, _^_, _≤_, _<_, suc-le-suc, min, max}
-use native.Mathlib.Nat.{zero-lt-suc, mod-lt, pow-suc, div-one, zero-div, div-eq-of-lt, lt-of-lt-of-le, le-add-right, le-div-iff-mul-le, div-lt-iff-lt-mul}
+use native.Mathlib.Nat.{zero-lt-suc, mod-lt, pow-suc, div-one, zero-div, div-eq-of-lt, lt-of-lt-of-le, le-add-right, le-div-iff-mul-le, div-lt-iff-lt-mul, pow-succ'}
 use native.Mathlib.Numerals.{one-add}
+use native.Mathlib.Decide.{ℕ-discrete, decLt}
 use native.Mathlib.Omega.{arith}
+use borrow.Author.Tests.{le-leb, lt-leb}
+use lib.Dec.{leb, ltb}
 use lib.Arith.{bin-ind, lt-one}
-use lib.Pow.{pow-pos, pow-mono, shr-shr}
+use lib.Pow.{pow-pos, pow-mono, shr-shr, field, mod-mod-pow}
 use lib.Bits.{bitAnd, bitOr, or-step, or-shr, and-step, and-shr}
 use lib.Count.{leading-top, trailingZeros}
 use Rattle.paper.specs.Words.{cell}
@@ -104,17 +107,46 @@ cell-unit-other (suc i) (suc j) n =
     let h : 2 ^ suc i / 2 ≡ 2 ^ i = omega (arith, pow-suc 2 i) in
     rw (cell-suc (2 ^ suc i) j, h) (cell-unit-other i j (λ e. n (ap suc e)))
 
--- the highest cell of a word that is not 0
-pub top : (x : ℕ) → 0 < x → (j : ℕ) × (2 ^ j ≤ x) × (x < 2 ^ suc j) × (cell x j ≡ 1)
-top x p =
-    let t = leading-top x x p (lt-pow x) in
-    (t .0, t .2, t .3, here (t .0) (t .2) (t .3))
+pub cell-unit-swap : (i j : ℕ) → cell (2 ^ i) j ≡ cell (2 ^ j) i
+cell-unit-swap i j = go (ℕ-discrete i j)
   where
-    here : (j : ℕ) → 2 ^ j ≤ x → x < 2 ^ suc j → cell x j ≡ 1
-    here j l h =
-        let low : 1 ≤ x / 2 ^ j = le-div-iff-mul-le (pow-pos j) .1 (omega arith) in
-        let high : x / 2 ^ j < 2 = div-lt-iff-lt-mul (pow-pos j) .1 (omega (arith, pow-suc 2 j)) in
-        omega arith
+    go : Dec (i ≡ j) → cell (2 ^ i) j ≡ cell (2 ^ j) i
+    go (yes e) = rw e
+    go (no n) = cell-unit-other i j n ∙ sym (cell-unit-other j i (λ e. n (sym e)))
+
+-- the highest cell of a word is 1
+pub top-one : (j x : ℕ) → 2 ^ j ≤ x → x < 2 ^ suc j → cell x j ≡ 1
+top-one j x l h =
+    let low : 1 ≤ x / 2 ^ j = le-div-iff-mul-le (pow-pos j) .1 (omega arith) in
+    let high : x / 2 ^ j < 2 = div-lt-iff-lt-mul (pow-pos j) .1 (omega (arith, pow-suc 2 j)) in
+    omega arith
+
+-- a word that is not 0 has a highest cell
+pub top : (x : ℕ) → 0 < x → (j : ℕ) × (2 ^ j ≤ x) × (x < 2 ^ suc j) × (cell x j ≡ 1)
+top x p = let t = leading-top x x p (lt-pow x) in (t .0, t .2, t .3, top-one (t .0) x (t .2) (t .3))
+
+-- ---- the lower cells alone
+
+pub cell-low : (x n i : ℕ) → i < n → cell (x % 2 ^ n) i ≡ cell x i
+cell-low x n i h =
+    let e : n ≡ n - suc i + 1 + i = omega arith in
+    rw (e, field x (n - suc i + 1) i, mod-mod-pow (x / 2 ^ i) (n - suc i) 1)
+
+pub cell-low-above : (x n i : ℕ) → n ≤ i → cell (x % 2 ^ n) i ≡ 0
+cell-low-above x n i h = cell-above (mod-lt x (pow-pos n)) i h
+
+-- whether x is a word over n cells, told by a shift by n - 1
+pub low-test : (n x : ℕ) → 1 ≤ n → leb (x / 2 ^ (n - 1)) 1 ≡ ltb x (2 ^ n)
+low-test zero x h = absurd (omega arith)
+low-test (suc m) x h =
+    let less : suc m - 1 ≡ m = omega arith in
+    ap (λ (k : ℕ). leb (x / 2 ^ k) 1) less ∙ go (decLt (x / 2 ^ m) 2)
+  where
+    go : Dec (x / 2 ^ m < 2) → leb (x / 2 ^ m) 1 ≡ ltb x (2 ^ suc m)
+    go (yes p) = le-leb (x / 2 ^ m) 1 (omega arith) ∙ sym (le-leb (suc x) (2 ^ suc m) (rw (pow-succ' 2 m) (div-lt-iff-lt-mul (pow-pos m) .0 p)))
+    go (no p) =
+        lt-leb (x / 2 ^ m) 1 (omega arith)
+        ∙ sym (lt-leb (suc x) (2 ^ suc m) (suc-le-suc (rw (pow-succ' 2 m) (le-div-iff-mul-le (pow-pos m) .0 (let q : 2 ≤ x / 2 ^ m = omega arith in q)))))
 
 -- ---- the lowest cell, which the machine's trailing zeros give
 

@@ -11,7 +11,7 @@ use lib.Pow.{pow-pos, pow-mono}
 use lib.Bits.{bitAnd, and-comm, and-mod, and-le-l}
 use lib.Count.{ones, ones-step}
 use Rattle.paper.specs.Words.{cell, product, products, _⊕_}
-use Rattle.words.proofs.Cells.{and-half, and-odd, and-assoc, parity, by-half, cell-suc, cell-0, cell-of-0, ext, no-cell, top}
+use Rattle.words.proofs.Cells.{and-half, and-odd, and-assoc, parity, by-half, cell-suc, cell-0, cell-of-0, ext, no-cell, top, top-one}
 use Rattle.words.proofs.Sums.{⊕-half, ⊕-odd, ⊕-zero-l, ⊕-self, and-⊕, ones-zero, ones-⊕-and}
 
 -- ---- the product
@@ -48,6 +48,10 @@ product-unit x (suc i) =
     let o : 2 ^ suc i % 2 ≡ 0 = omega (arith, pow-suc 2 i) in
     let h : 2 ^ suc i / 2 ≡ 2 ^ i = omega (arith, pow-suc 2 i) in
     rw (product-step x (2 ^ suc i), h, o, product-unit (x / 2) i, cell-suc x i) (omega arith)
+
+-- a word that has the top cell has product 1 with that cell
+pub product-top : (n p : ℕ) → 2 ^ n ≤ p → p < 2 ^ suc n → product p (2 ^ n) ≡ 1
+product-top n p h l = product-unit p n ∙ top-one n p h l
 
 -- a word that is not 0 has product 1 with one of its cells
 pub product-some : (n a : ℕ) → a < 2 ^ n → a ≢ 0 → (x : ℕ) × (x < 2 ^ n) × (product a x ≡ 1)

@@ -10,7 +10,7 @@ use lib.Seq.{drop-cons}
 use lib.Pow.{shr-shr, field, mod-mod-pow}
 use Rattle.paper.specs.Words.{product, products, sum, _⊕_}
 use Rattle.words.proofs.Cells.{by-parity}
-use Rattle.words.proofs.Sums.{⊕-half, ⊕-odd, ⊕-assoc, ⊕-self, ⊕-swap, ⊕-zero-l, ⊕-zero-r, pick-⊕}
+use Rattle.words.proofs.Sums.{⊕-half, ⊕-odd, ⊕-assoc, ⊕-self, ⊕-swap, ⊕-zero-l, ⊕-zero-r, ⊕-above, pick-⊕}
 use Rattle.words.proofs.Products.{product-zero-l, product-zero-r, product-lt, product-step, ⊕-product, products-nil, products-half, products-odd}
 
 pub sum-nil : (d : ℕ) → sum [] d ≡ 0
@@ -70,6 +70,17 @@ sum-append [] ys d = rw div-one (sym (⊕-zero-l (sum ys d)))
 sum-append (g ∷ gs) ys d =
     rw (sum-append gs ys (d / 2), shr-shr d 1 (length gs), one-add (length gs))
     (sym (⊕-assoc (d % 2 * g) (sum gs (d / 2)) (sum ys (d / 2 ^ suc (length gs)))))
+
+-- the first j rows are what the lower j bits pick
+pub sum-take : (j : ℕ) (rows : List ℕ) (d : ℕ) → sum (take j rows) d ≡ sum rows (d % 2 ^ j)
+unfolding sum
+sum-take zero rows d = rw (mod-one d) (sym (sum-zero rows))
+sum-take (suc j) [] d = refl
+sum-take (suc j) (g ∷ gs) d = rw (sum-take j gs (d / 2), ← add-one j, mod-mod-pow d j 1, field d j 1)
+
+-- row j above a choice of earlier rows
+pub sum-top : (rows : List ℕ) (j e : ℕ) → e < 2 ^ j → sum rows (e + 2 ^ j) ≡ getD rows j 0 ⊕ sum (take j rows) e
+sum-top rows j e h = rw (← ⊕-above j e h, sum-⊕ rows (2 ^ j) e, sum-unit rows j, sum-take j rows e, mod-eq-of-lt h)
 
 -- ---- what a loop over the rows cites, from the first row up, with the sum c of those passed
 

@@ -1,10 +1,12 @@
-// Words of cells: the product of two words, the products with the rows of a part of a sheet, sums of rows, and the lowest cell.
+// Words of cells: the product of two words, the products with the rows of a part of a sheet, sums of rows,
+// the lowest cell, and the cells at n or above.
 ghost use mathlib.Core.Path.{_≡_};
-ghost use Prim.Native.Nat.{_≤_, _<_};
-ghost use lib.Dec.{eqb};
+ghost use Prim.Native.Nat.{_%_, _^_, _≤_, _<_};
+ghost use lib.Dec.{eqb, ltb};
 ghost use lib.ListN.{length};
-ghost use Rattle.paper.specs.First.{first, at};
-ghost use Rattle.paper.specs.Words.{width, cell, product, products, sum};
+ghost use Rattle.paper.specs.First.{first};
+ghost use Rattle.paper.specs.Words.{width, cell, product, products, sum, _⊕_};
+ghost use Rattle.words.specs.Places.{placed};
 
 // The first number with a property, or that there is none.
 pub enum Place {
@@ -56,10 +58,37 @@ pub fn sum_of(rows: &[u32], d: u32) -> u32
     word
 }
 
-// The lowest cell of a word that is not 0.
-pub fn lowest_of(x: u32) -> u32
-    requires { ⌜ 0 < x ⌝ }
-    ensures { λ r. ⌜ at r ≡ first width (λ i. eqb (cell x i) 1) ⌝ }
+// The lowest cell of a word that is 1, or that all are 0.
+pub fn lowest_of(x: u32) -> Place
+    ensures { λ r. ⌜ placed r ≡ first width (λ i. eqb (cell x i) 1) ⌝ }
 {
-    u32::trailing_zeros(x)
+    if x == 0 {
+        Place::Nowhere
+    } else {
+        Place::At(u32::trailing_zeros(x))
+    }
+}
+
+// Whether x is a word over n cells. The shift by n - 1 is below the width also where n is the width.
+pub fn is_low(n: u32, x: u32) -> bool
+    requires { ⌜ (1 ≤ n) × (n ≤ width) ⌝ }
+    ensures { λ r. ⌜ r ≡ ltb x (2 ^ n) ⌝ }
+{
+    x >> (n - 1) <= 1
+}
+
+// The word that is 1 at cell c alone.
+pub fn cell_of(c: u32) -> u32
+    requires { ⌜ c < width ⌝ }
+    ensures { λ r. ⌜ r ≡ 2 ^ c ⌝ }
+{
+    1 << c
+}
+
+// The cells of x at n or above.
+pub fn strays_of(n: u32, x: u32) -> u32
+    requires { ⌜ n ≤ width ⌝ }
+    ensures { λ r. ⌜ r ≡ x ⊕ x % 2 ^ n ⌝ }
+{
+    if n < 32 { x ^ (x % cell_of(n)) } else { 0 }
 }

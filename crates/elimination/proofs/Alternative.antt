@@ -1,0 +1,105 @@
+-- The alternative: some choice of rows has the target's levels at the mask's cells, or a set of those cells shows that none has:
+-- every row meets the set in an even number of cells, and the target in an odd number. Never both.
+-- Demand 3's first half rests on it, and request 10 hands the set out. Assumes nothing.
+use mathlib.Core.Path.{_≡_, refl, sym, ap, ap₂, _∙_, subst}
+use mathlib.Core.Logic.{_⊎_, inl, inr}
+use mathlib.Core.List.{List, [], _∷_, map}
+use Prim.Native.Nat.{ℕ, zero, suc, _+_, _-_, _*_, _/_, _%_, _^_, _≤_, _<_}
+use native.Mathlib.Nat.{lt-of-le-of-lt}
+use native.Mathlib.Decide.{ℕ-discrete}
+use native.Mathlib.Omega.{arith}
+use lib.Bits.{bitAnd, and-comm, and-le-l, and-zero-r}
+use lib.ListN.{length}
+use Rattle.paper.specs.Words.{product, products, sum, _⊕_}
+use Rattle.words.proofs.Cells.{and-and, lt-pow}
+use Rattle.words.proofs.Sums.{⊕-cancel, ⊕-lt, and-⊕}
+use Rattle.words.proofs.Products.{product-lt, product-cases, product-comm, product-⊕, ⊕-product, product-some, product-mask}
+use Rattle.elimination.specs.Evidence.{Evidence}
+use Rattle.elimination.proofs.Span.{All, Perp, Low, Span, span-perp, sum-span, span-sum, products-of-perp, perp-of-products}
+
+pub record Tells (n : ℕ) (R : List ℕ) (y : ℕ) : Type 0 where
+  pub by : ℕ
+  pub low : by < 2 ^ n
+  pub rows : All (Perp by) R
+  pub word : product by y ≡ 1
+
+all-⊕ : (a b : ℕ) (R : List ℕ) → All (Perp a) R → All (Perp b) R → All (Perp (a ⊕ b)) R
+all-⊕ a b [] h l = tt
+all-⊕ a b (r ∷ R) h l = (⊕-product a b r ∙ ap₂ (λ (u v : ℕ). (u + v) % 2) (h .0) (l .0), all-⊕ a b R (h .1) (l .1))
+
+pub tell : (n : ℕ) (R : List ℕ) (y : ℕ) → All (Low n) R → y < 2 ^ n → Span R y ⊎ Tells n R y
+tell n [] y h l = go (ℕ-discrete y 0)
+  where
+    go : Dec (y ≡ 0) → (y ≡ 0) ⊎ Tells n [] y
+    go (yes e) = inl e
+    go (no f) = let r = product-some n y l f in inr (record { by = r .0; low = r .1; rows = tt; word = product-comm (r .0) y ∙ r .2 })
+tell n (g ∷ R) y h l = go (tell n R y (h .1) l) (tell n R (g ⊕ y) (h .1) (⊕-lt n g y (h .0) l))
+  where
+    last : (s : Tells n R y) (t : Tells n R (g ⊕ y)) → (product (s .by) g ≡ 0) ⊎ (product (s .by) g ≡ 1) → (product (t .by) g ≡ 0) ⊎ (product (t .by) g ≡ 1)
+        → Tells n (g ∷ R) y
+    last s t (inl e) q = record { by = s .by; low = s .low; rows = (e, s .rows); word = s .word }
+    last s t (inr d) (inl e) = record {
+      by = t .by;
+      low = t .low;
+      rows = (e, t .rows);
+      word = omega (arith, t .word, product-⊕ (t .by) g y, e, product-lt (t .by) y);
+    }
+    last s t (inr d) (inr e) = record {
+      by = s .by ⊕ t .by;
+      low = ⊕-lt n (s .by) (t .by) (s .low) (t .low);
+      rows = (⊕-product (s .by) (t .by) g ∙ ap₂ (λ (u v : ℕ). (u + v) % 2) d e, all-⊕ (s .by) (t .by) R (s .rows) (t .rows));
+      word = omega (arith, ⊕-product (s .by) (t .by) y, s .word, t .word, product-⊕ (t .by) g y, e, product-lt (t .by) y);
+    }
+
+    go : Span R y ⊎ Tells n R y → Span R (g ⊕ y) ⊎ Tells n R (g ⊕ y) → (Span R y ⊎ Span R (g ⊕ y)) ⊎ Tells n (g ∷ R) y
+    go (inl s) t = inl (inl s)
+    go (inr s) (inl t) = inl (inr t)
+    go (inr s) (inr t) = inr (last s t (product-cases (s .by) g) (product-cases (t .by) g))
+
+-- ---- the rows at the stuck cells
+
+abbrev pub at : ℕ → ℕ → ℕ
+at s x = bitAnd s x
+
+at-low : (n s : ℕ) → s < 2 ^ n → (R : List ℕ) → All (Low n) (map (at s) R)
+at-low n s h [] = tt
+at-low n s h (r ∷ R) = (lt-of-le-of-lt (and-le-l s r) h, at-low n s h R)
+
+span-at : (s : ℕ) (R : List ℕ) (y : ℕ) → Span (map (at s) R) y → (x : ℕ) × Span R x × (at s x ≡ y)
+span-at s [] y h = (0, refl, and-zero-r s ∙ sym h)
+span-at s (r ∷ R) y (inl h) = let t = span-at s R y h in (t .0, inl (t .1), t .2)
+span-at s (r ∷ R) y (inr h) =
+    let t = span-at s R (at s r ⊕ y) h in
+    (r ⊕ t .0, inr (subst (Span R) (sym (⊕-cancel r (t .0))) (t .1)), and-⊕ s r (t .0) ∙ ap (λ (z : ℕ). at s r ⊕ z) (t .2) ∙ ⊕-cancel (at s r) y)
+
+perp-at : (c s : ℕ) (R : List ℕ) → All (Perp c) (map (at s) R) → All (Perp (bitAnd c s)) R
+perp-at c s [] h = tt
+perp-at c s (r ∷ R) h = (product-mask c s r ∙ h .0, perp-at c s R (h .1))
+
+-- ---- a choice of rows, or evidence; never both
+
+module _ (rows : List ℕ) (mask target : ℕ) where
+  pub alternative : ((d : ℕ) × (d < 2 ^ length rows) × (bitAnd (sum rows d) mask ≡ bitAnd target mask)) ⊎ ((c : ℕ) × Evidence rows mask target c)
+  alternative = go (tell mask (map (at mask) rows) (at mask target) (at-low mask mask (lt-pow mask) rows) (lt-of-le-of-lt (and-le-l mask target) (lt-pow mask)))
+    where
+      go : Span (map (at mask) rows) (at mask target) ⊎ Tells mask (map (at mask) rows) (at mask target)
+          → ((d : ℕ) × (d < 2 ^ length rows) × (bitAnd (sum rows d) mask ≡ bitAnd target mask)) ⊎ ((c : ℕ) × Evidence rows mask target c)
+      go (inl h) =
+          let t = span-at mask rows (at mask target) h in
+          let r = span-sum rows (t .0) (t .1) in
+          inl (r .0, r .1, and-comm (sum rows (r .0)) mask ∙ ap (at mask) (r .2) ∙ t .2 ∙ and-comm mask target)
+      go (inr t) = inr (
+        bitAnd (t .by) mask,
+        record {
+          inside = and-and (t .by) mask;
+          even = products-of-perp rows (bitAnd (t .by) mask) (perp-at (t .by) mask rows (t .rows));
+          odd = product-mask (t .by) mask target ∙ t .word;
+        },
+      )
+
+  pub never-both : (c : ℕ) → Evidence rows mask target c → (d : ℕ) → bitAnd (sum rows d) mask ≡ bitAnd target mask → ⊥
+  never-both c v d f =
+      let z : product c (sum rows d) ≡ 0 = span-perp c rows (perp-of-products rows c (v .even)) (sum rows d) (sum-span rows d) in
+      let on : (x : ℕ) → product c x ≡ product c (bitAnd x mask) =
+      λ x. ap (λ (u : ℕ). product u x) (sym (v .inside)) ∙ product-mask c mask x ∙ ap (product c) (and-comm mask x) in
+      omega (arith, v .odd, z, on (sum rows d), on target, ap (product c) f)

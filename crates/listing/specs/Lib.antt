@@ -1,0 +1,2 @@
+-- What the code's answers are, in the paper's terms, and what it tests.
+pub mod Searches

@@ -1,0 +1,67 @@
+-- The starred cases of document 01: one table of calls and what they tell, and one claim over its rows, of the definitions.
+use mathlib.Core.Path.{_≡_, refl}
+use mathlib.Core.List.{List, [], _∷_, map}
+use Prim.Native.Nat.{ℕ}
+use lib.Count.{ones}
+use Rattle.paper.specs.First.{first}
+use Rattle.paper.specs.Listing.{listed, weights, search}
+use Rattle.paper.specs.Words.{products, sum, _⊕_}
+use Rattle.paper.specs.Refusals.{Told, answer, more, refusal}
+use Rattle.paper.specs.Sheet.{Sheet, sheet, judged}
+use Rattle.paper.specs.Writing.{writes}
+use Rattle.paper.specs.Reading.{nearest, reads}
+use Rattle.paper.specs.Plate.{searchD0, searchD1, measuresD0, measuresD1}
+
+-- "Kitchen sheet: n 7, k 3, l 1, r 3; rows 49, 82, 100, 127, 27, 45, 78, 9, 10, 12."
+abbrev pub kitchen : Sheet
+kitchen = sheet 7 3 1 (49 ∷ 82 ∷ 100 ∷ 127 ∷ 27 ∷ 45 ∷ 78 ∷ 9 ∷ 10 ∷ 12 ∷ [])
+
+-- "Attic sheet: n 3, k 1, l 2, r 0; rows 1, 3, 5, 7."
+abbrev pub attic : Sheet
+attic = sheet 3 1 2 (1 ∷ 3 ∷ 5 ∷ 7 ∷ [])
+
+-- a call, and what it tells
+pub data Call : Type 0 where
+  write : Sheet → ℕ → ℕ → ℕ → Call
+  read : Sheet → ℕ → ℕ → Call
+  d0 : Sheet → ℕ → Call
+  d1 : Sheet → ℕ → Call
+
+pub tells : Call → Told
+tells (write s message stuck levels) = writes s message stuck levels
+tells (read s y radius) = reads s y radius
+tells (d0 s cap) = measuresD0 s cap
+tells (d1 s cap) = measuresD1 s cap
+
+pub record Case : Type 0 where
+  pub call : Call
+  pub told : Told
+
+infix 70 _gives_
+_gives_ : Call → Told → Case
+call gives told = record { call = call; told = told }
+
+pub cases : List Case
+cases =
+    write kitchen 5 0 0 gives answer (85 ∷ 0 ∷ [])
+    ∷ write kitchen 5 1 0 gives answer (42 ∷ 1 ∷ [])
+    ∷ write kitchen 5 3 1 gives answer (85 ∷ 0 ∷ [])
+    ∷ write kitchen 5 3 0 gives refusal 9 []
+    ∷ d0 kitchen 8 gives answer (2 ∷ 8 ∷ [])
+    ∷ d0 kitchen 1 gives more (7 ∷ [])
+    ∷ d1 kitchen 8 gives answer (3 ∷ 29 ∷ 1 ∷ [])
+    ∷ d1 kitchen 2 gives more (28 ∷ 1 ∷ [])
+    ∷ read kitchen 21 1 gives answer (5 ∷ 64 ∷ 8 ∷ [])
+    ∷ read kitchen 21 0 gives refusal 12 (1 ∷ [])
+    ∷ read kitchen 86 1 gives answer (2 ∷ 4 ∷ 4 ∷ [])
+    ∷ write attic 1 1 0 gives answer (2 ∷ 1 ∷ [])
+    ∷ write attic 1 7 0 gives refusal 9 []
+    ∷ write attic 0 7 0 gives answer (0 ∷ 0 ∷ [])
+    ∷ d0 attic 8 gives answer (3 ∷ 7 ∷ [])
+    ∷ d1 attic 8 gives answer (1 ∷ 1 ∷ 0 ∷ [])
+    ∷ []
+
+-- every row of the table holds
+pub bench : map (λ (row : Case). tells (row .call)) cases ≡ map (λ (row : Case). row .told) cases
+unfolding tells _gives_ cases writes reads measuresD0 measuresD1 searchD0 searchD1 nearest judged first weights listed search products sum _⊕_ ones
+bench = refl

@@ -1,0 +1,263 @@
+-- What the verdict on a sheet says: a refused sheet is refused by every call alike, and an admitted one is sound. Assumes nothing.
+use mathlib.Core.Path.{_≡_, refl, sym, ap, ap₂, _∙_, subst}
+use mathlib.Core.Bool.{Bool, true, false, cond, not, _&&_, true≢false}
+use mathlib.Core.Logic.{_⊎_, inl, inr}
+use mathlib.Core.List.{List, [], _∷_, _++_}
+use Prim.Native.Nat.{ℕ, zero, suc, _+_, _-_, _^_, _≤_, _<_}
+use native.Mathlib.Decide.{ℕ-discrete}
+use native.Mathlib.Nat.{add-sub-cancel-left}
+use native.Mathlib.Omega.{arith}
+use borrow.Author.Tests.{leb-true, leb-false, eqb-true, eqb-false, eq-eqb, ne-eqb}
+use lib.Dec.{leb, eqb}
+use lib.ListN.{length, getD, take, drop, length-take, length-drop}
+use lib.Pow.{pow-lt}
+use lib.Seq.{getD-take, getD-drop, take-add}
+use Rattle.paper.specs.First.{First, nowhere, at, first, any}
+use Rattle.paper.specs.Words.{width, cell, product, products}
+use Rattle.paper.specs.Refusals.{Told, answer, refusal, refused, unless, unlessAt}
+use Rattle.paper.specs.Sheet.{Sheet, r, G1, G0, H, M, G, shaped, stray, wanted, off, offCode, offMessage, dependent, judged, admits, Admitted}
+use Rattle.paper.specs.declared.Refusal.{Refusal}
+use Rattle.paper.specs.declared.Refusal.the-variants.{Shape, Stray, OffCode, OffMessage, DependentG0, DependentH, Message, Stuck, NoWord, ReadWord, Limit, NoCodeword}
+use Rattle.words.proofs.Cells.{ext, no-cell, cell-unit, cell-unit-other}
+use Rattle.words.proofs.Products.{product-comm, cell-products, products-lt}
+use Rattle.words.proofs.Firsts.{first-all, any-all}
+use Rattle.elimination.proofs.Span.{All, Low, Free}
+use Rattle.sheet.specs.Sound.{Shaped, Sound}
+
+-- ---- a rule refuses whatever comes next, or passes to it
+
+pub data Stage (f : Told → Told) : Type 0 where
+  passes : ((next : Told) → f next ≡ next) → Stage f
+  refuses : (number : ℕ) (given : List ℕ) → ((next : Told) → f next ≡ refusal number given) → Stage f
+
+unless-stage : (test : Bool) (number : ℕ) → Stage (unless test number)
+unless-stage true number = passes (λ next. refl)
+unless-stage false number = refuses number [] (λ next. refl)
+
+unlessAt-stage : (place : First) (number base : ℕ) → Stage (unlessAt place number base)
+unlessAt-stage nowhere number base = passes (λ next. refl)
+unlessAt-stage (at i) number base = refuses number ((base + i) ∷ []) (λ next. refl)
+
+then : {f g : Told → Told} → Stage f → Stage g → Stage (λ next. f (g next))
+then {f} {g} (passes p) (passes q) = passes (λ next. p (g next) ∙ q next)
+then {f} {g} (passes p) (refuses number given q) = refuses number given (λ next. p (g next) ∙ q next)
+then {f} {g} (refuses number given p) q = refuses number given (λ next. p (g next))
+
+pub judged-stage : (s : Sheet) → Stage (judged s)
+unfolding judged
+judged-stage s =
+    then (unless-stage (shaped s) 1)
+    (then (unlessAt-stage (first (length (s .rows)) (stray s)) 2 0)
+    (then (unlessAt-stage (first (s .k + s .l) (offCode s)) 3 0)
+    (then (unlessAt-stage (first (s .k + s .l) (offMessage s)) 4 0)
+    (then (unlessAt-stage (first (s .l) (dependent (G0 s))) 5 (s .k))
+    (unlessAt-stage (first (r s) (dependent (H s))) 6 (s .k + s .l))))))
+
+answer-refusal {ℓ} : {C : Type ℓ} {t : Told} {values given : List ℕ} {number : ℕ} → t ≡ answer values → t ≡ refusal number given → C
+answer-refusal p q = let z : _≡_ {A = ℕ} 0 1 = cc in absurd (omega arith)
+
+-- an admitted sheet passes to what comes next
+pub admitted-next : (s : Sheet) → Admitted s → (next : Told) → judged s next ≡ next
+admitted-next s ok = go (judged-stage s)
+  where
+    go : Stage (judged s) → (next : Told) → judged s next ≡ next
+    go (passes p) = p
+    go (refuses number given p) = answer-refusal ok (p (answer []))
+
+-- a refusal of the sheet is every call's
+pub refused-next : (s : Sheet) {number : ℕ} {given : List ℕ} → judged s (answer []) ≡ refusal number given → (next : Told) → judged s next ≡ refusal number given
+refused-next s {number} {given} e = go (judged-stage s)
+  where
+    go : Stage (judged s) → (next : Told) → judged s next ≡ refusal number given
+    go (passes p) = answer-refusal (p (answer [])) e
+    go (refuses m g p) = λ next. p next ∙ sym (p (answer [])) ∙ e
+
+-- every reason tells a refusal
+pub refused-is : (why : Refusal) → (number : ℕ) × (given : List ℕ) × (refused why ≡ refusal number given)
+refused-is Shape = (1, [], refl)
+refused-is (Stray row) = (2, row ∷ [], refl)
+refused-is (OffCode row) = (3, row ∷ [], refl)
+refused-is (OffMessage row) = (4, row ∷ [], refl)
+refused-is (DependentG0 row) = (5, row ∷ [], refl)
+refused-is (DependentH row) = (6, row ∷ [], refl)
+refused-is Message = (7, [], refl)
+refused-is (Stuck cell) = (8, cell ∷ [], refl)
+refused-is NoWord = (9, [], refl)
+refused-is (ReadWord cell) = (10, cell ∷ [], refl)
+refused-is Limit = (11, [], refl)
+refused-is (NoCodeword tried) = (12, tried ∷ [], refl)
+
+-- the code's way: the reason that admission gave is the call's answer
+pub refused-call : (s : Sheet) (why : Refusal) → refused why ≡ admits s → (next : Told) → refused why ≡ judged s next
+refused-call s why e next = let q = refused-is why in q .2 ∙ sym (refused-next s (sym e ∙ q .2) next)
+
+-- ---- an admitted sheet passes each rule
+
+unless-passed : (test : Bool) (number : ℕ) (next : Told) → unless test number next ≡ answer [] → (test ≡ true) × (next ≡ answer [])
+unless-passed true number next e = (refl, e)
+unless-passed false number next e = answer-refusal e refl
+
+unlessAt-passed : (place : First) (number base : ℕ) (next : Told) → unlessAt place number base next ≡ answer []
+    → (place ≡ nowhere) × (next ≡ answer [])
+unlessAt-passed nowhere number base next e = (refl, e)
+unlessAt-passed (at i) number base next e = answer-refusal e refl
+
+pub record Passed (s : Sheet) : Type 0 where
+  pub shape : shaped s ≡ true
+  pub strays : first (length (s .rows)) (stray s) ≡ nowhere
+  pub codes : first (s .k + s .l) (offCode s) ≡ nowhere
+  pub messages : first (s .k + s .l) (offMessage s) ≡ nowhere
+  pub sums-G0 : first (s .l) (dependent (G0 s)) ≡ nowhere
+  pub sums-H : first (r s) (dependent (H s)) ≡ nowhere
+
+pub passed : (s : Sheet) → Admitted s → Passed s
+unfolding judged
+passed s ok =
+    let a = unless-passed (shaped s) 1 _ ok in
+    let b = unlessAt-passed (first (length (s .rows)) (stray s)) 2 0 _ (a .1) in
+    let c = unlessAt-passed (first (s .k + s .l) (offCode s)) 3 0 _ (b .1) in
+    let d = unlessAt-passed (first (s .k + s .l) (offMessage s)) 4 0 _ (c .1) in
+    let e = unlessAt-passed (first (s .l) (dependent (G0 s))) 5 (s .k) _ (d .1) in
+    let f = unlessAt-passed (first (r s) (dependent (H s))) 6 (s .k + s .l) _ (e .1) in
+    record { shape = a .0; strays = b .0; codes = c .0; messages = d .0; sums-G0 = e .0; sums-H = f .0 }
+
+-- ---- and so it is sound
+
+and-true : (a b : Bool) → (a && b) ≡ true → (a ≡ true) × (b ≡ true)
+and-true true b e = (refl, e)
+and-true false b e = absurd (true≢false (sym e))
+
+pub shaped-facts : (s : Sheet) → shaped s ≡ true → Shaped s
+shaped-facts s e =
+    let p = and-true (leb 1 (s .n) && leb (s .n) width && leb 1 (s .k) && leb (s .k + s .l) (s .n)) (eqb (length (s .rows)) (s .n + s .k)) e in
+    let q = and-true (leb 1 (s .n) && leb (s .n) width && leb 1 (s .k)) (leb (s .k + s .l) (s .n)) (p .0) in
+    let t = and-true (leb 1 (s .n) && leb (s .n) width) (leb 1 (s .k)) (q .0) in
+    let u = and-true (leb 1 (s .n)) (leb (s .n) width) (t .0) in
+    record {
+      some-cells = leb-true 1 (s .n) (u .0);
+      few-cells = leb-true (s .n) width (u .1);
+      some-message = leb-true 1 (s .k) (t .1);
+      room = leb-true (s .k + s .l) (s .n) (q .1);
+      all-rows = eqb-true (length (s .rows)) (s .n + s .k) (p .1);
+    }
+
+-- a property of each row by its number
+all-get : (P : ℕ → Type 0) (rows : List ℕ) → ((i : ℕ) → i < length rows → P (getD rows i 0)) → All P rows
+all-get P [] h = tt
+all-get P (g ∷ gs) h = (h 0 (omega arith), all-get P gs (λ i l. h (suc i) (omega arith)))
+
+-- the rows of a part, by their numbers in the whole
+module _ (rows : List ℕ) (from count : ℕ) (inside : from + count ≤ length rows) where
+  pub part-length : length (take count (drop from rows)) ≡ count
+  part-length = simp (length-take, length-drop) (omega arith)
+
+  pub part-at : (i : ℕ) → i < count → getD (take count (drop from rows)) i 0 ≡ getD rows (from + i) 0
+  part-at i h = rw (getD-take count (drop from rows) i 0 h, getD-drop)
+
+  part-all : (P : ℕ → Type 0) → ((i : ℕ) → i < length rows → P (getD rows i 0)) → All P (take count (drop from rows))
+  part-all P h =
+      all-get P (take count (drop from rows))
+      (λ i l. let k : i < count = omega (arith, part-length) in subst P (sym (part-at i k)) (h (from + i) (omega arith)))
+
+-- the product that is wanted, where no row is off
+on : (own : ℕ) (gs others : List ℕ) (i j : ℕ) → off own gs others i ≡ false → j < length others
+    → product (getD gs i 0) (getD others j 0) ≡ wanted own i j
+on own gs others i j e l = go (eqb (product (getD gs i 0) (getD others j 0)) (wanted own i j)) refl
+  where
+    go : (b : Bool) → eqb (product (getD gs i 0) (getD others j 0)) (wanted own i j) ≡ b → product (getD gs i 0) (getD others j 0) ≡ wanted own i j
+    go true q = eqb-true _ _ q
+    go false q = absurd (true≢false (sym (ap not q) ∙ any-all _ (length others) j e l))
+
+own-wanted : (own i : ℕ) → wanted own i i ≡ own
+own-wanted own i = ap (λ (b : Bool). cond b own 0) (eq-eqb i i refl)
+
+no-wanted : (own i j : ℕ) → (i ≡ j → ⊥) → wanted own i j ≡ 0
+no-wanted own i j n = ap (λ (b : Bool). cond b own 0) (ne-eqb i j n)
+
+zero-wanted : (i j : ℕ) → wanted 0 i j ≡ 0
+zero-wanted i j = go (eqb i j)
+  where
+    go : (b : Bool) → _≡_ {A = ℕ} (cond b 0 0) 0
+    go true = refl
+    go false = refl
+
+-- a word whose product with row j is 1 for j = i alone, or for none
+products-only : (rows : List ℕ) (x i : ℕ) → i < length rows → ((j : ℕ) → j < length rows → product x (getD rows j 0) ≡ wanted 1 i j)
+    → products rows x ≡ 2 ^ i
+products-only rows x i h e =
+    ext (length rows) (products-lt rows x) (pow-lt h) (λ j l. cell-products rows x j ∙ product-comm (getD rows j 0) x ∙ e j l ∙ at-cell j (ℕ-discrete i j))
+  where
+    at-cell : (j : ℕ) → Dec (i ≡ j) → wanted 1 i j ≡ cell (2 ^ i) j
+    at-cell j (yes q) = subst (λ (m : ℕ). wanted 1 i m ≡ cell (2 ^ i) m) q (own-wanted 1 i ∙ sym (cell-unit i))
+    at-cell j (no n) = no-wanted 1 i j n ∙ sym (cell-unit-other i j n)
+
+products-none : (rows : List ℕ) (x : ℕ) → ((j : ℕ) → j < length rows → product x (getD rows j 0) ≡ 0) → products rows x ≡ 0
+products-none rows x e =
+    no-cell (length rows) (products-lt rows x) (λ j l. cell-products rows x j ∙ product-comm (getD rows j 0) x ∙ e j l)
+
+-- the facts, from the rules passed
+module _ (s : Sheet) (ok : Passed s) where
+  shape-of : Shaped s
+  shape-of = shaped-facts s (ok .shape)
+
+  low-row : (i : ℕ) → i < length (s .rows) → getD (s .rows) i 0 < 2 ^ s .n
+  low-row i l = omega (arith, leb-false (2 ^ s .n) (getD (s .rows) i 0) (first-all _ (length (s .rows)) i (ok .strays) l))
+
+  inside-G1 : 0 + s .k ≤ length (s .rows)
+  inside-G1 = omega (arith, shape-of .all-rows)
+
+  inside-G0 : s .k + s .l ≤ length (s .rows)
+  inside-G0 = omega (arith, shape-of .all-rows, shape-of .room)
+
+  inside-H : s .k + s .l + r s ≤ length (s .rows)
+  inside-H = omega (arith, shape-of .all-rows, shape-of .room)
+
+  inside-M : s .n + s .k ≤ length (s .rows)
+  inside-M = omega (arith, shape-of .all-rows)
+
+  -- row i of G1 and G0 together, in its part
+  G-at : (i : ℕ) → i < s .k + s .l → getD (G s) i 0 ≡ getD (s .rows) i 0
+  G-at i l = rw (getD-take (s .k + s .l) (s .rows) i 0 l)
+
+  G1-at : (i : ℕ) → i < s .k → getD (G1 s) i 0 ≡ getD (G s) i 0
+  G1-at i l = rw (getD-take (s .k) (s .rows) i 0 l) (sym (G-at i (omega arith)))
+
+  G0-at : (i : ℕ) → i < s .l → getD (G0 s) i 0 ≡ getD (G s) (s .k + i) 0
+  G0-at i l = part-at (s .rows) (s .k) (s .l) inside-G0 i l ∙ sym (G-at (s .k + i) (omega arith))
+
+  in-code : (i : ℕ) → i < s .k + s .l → products (H s) (getD (G s) i 0) ≡ 0
+  in-code i l =
+      products-none (H s) (getD (G s) i 0)
+      (λ j m. on 0 (G s) (H s) i j (first-all _ (s .k + s .l) i (ok .codes) l) m ∙ zero-wanted i j)
+
+  on-M : (i j : ℕ) → i < s .k + s .l → j < length (M s) → product (getD (G s) i 0) (getD (M s) j 0) ≡ wanted 1 i j
+  on-M i j l m = on 1 (G s) (M s) i j (first-all _ (s .k + s .l) i (ok .messages) l) m
+
+  count-M′ : length (M s) ≡ s .k
+  count-M′ = part-length (s .rows) (s .n) (s .k) inside-M
+
+  pub sound-of : Sound s
+  sound-of = record {
+    shape = shape-of;
+    count-G1 = part-length (s .rows) 0 (s .k) inside-G1;
+    count-G0 = part-length (s .rows) (s .k) (s .l) inside-G0;
+    count-H = part-length (s .rows) (s .k + s .l) (r s) inside-H;
+    count-M = count-M′;
+    low-G1 = part-all (s .rows) 0 (s .k) inside-G1 (Low (s .n)) low-row;
+    low-G0 = part-all (s .rows) (s .k) (s .l) inside-G0 (Low (s .n)) low-row;
+    low-H = part-all (s .rows) (s .k + s .l) (r s) inside-H (Low (s .n)) low-row;
+    low-M = part-all (s .rows) (s .n) (s .k) inside-M (Low (s .n)) low-row;
+    code-G1 = all-get _ (G1 s) (λ i l. let m : i < s .k = omega (arith, part-length (s .rows) 0 (s .k) inside-G1) in rw (G1-at i m) (in-code i (omega arith)));
+    code-G0 = all-get _ (G0 s) (λ i l. let m : i < s .l = omega (arith, part-length (s .rows) (s .k) (s .l) inside-G0) in rw (G0-at i m) (in-code (s .k + i) (omega arith)));
+    message-G1 = λ i l. rw (G1-at i l) (products-only (M s) (getD (G s) i 0) i (omega (arith, count-M′)) (λ j m. on-M i j (omega arith) m));
+    message-G0 = all-get _ (G0 s) (λ i l.
+        let m : i < s .l = omega (arith, part-length (s .rows) (s .k) (s .l) inside-G0) in
+        rw (G0-at i m) (products-none (M s) (getD (G s) (s .k + i) 0)
+        (λ j q. on-M (s .k + i) j (omega arith) q ∙ no-wanted 1 (s .k + i) j (λ e. omega (arith, count-M′)))));
+    free-G0 = λ j l. first-all _ (s .l) j (ok .sums-G0) (omega (arith, part-length (s .rows) (s .k) (s .l) inside-G0));
+    free-H = λ j l. first-all _ (r s) j (ok .sums-H) (omega (arith, part-length (s .rows) (s .k + s .l) (r s) inside-H));
+  }
+
+-- an admitted sheet is sound
+pub sound : (s : Sheet) → Admitted s → Sound s
+sound s ok = sound-of s (passed s ok)
