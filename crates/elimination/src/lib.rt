@@ -2,7 +2,7 @@
 // Row j is reduced by the words kept of the rows before it, and what is left is kept, with the choice of rows that makes it;
 // the target is reduced by them all. For m rows that is at most m * (m + 1) / 2 steps, each a sum and a comparison: MATHEMATICS 1.
 ghost use mathlib.Core.Path.{_≡_};
-ghost use Prim.Native.Nat.{_≤_, _<_, _^_};
+ghost use Prim.Native.Nat.{_≤_, _^_};
 ghost use lib.Dec.{eqb};
 ghost use lib.Bits.{bitAnd};
 ghost use lib.ListN.{length, getD};
@@ -12,6 +12,7 @@ ghost use Rattle.paper.specs.Sheet.{dependent};
 ghost use Rattle.words.specs.Places.{placed};
 ghost use Rattle.elimination.specs.Kept.{Within, Reduces, Keeps, masked};
 use words::Place;
+use words::cell_of;
 
 // What is left of a word, and the choice of rows that was added on the way.
 struct Reduced {
@@ -23,14 +24,6 @@ struct Reduced {
 struct Kept {
     words: [u32; 32],
     choices: [u32; 32],
-}
-
-// The word that is 1 at cell j alone.
-fn cell(j: usize) -> u32
-    requires { ⌜ j < width ⌝ }
-    ensures { λ r. ⌜ r ≡ 2 ^ j ⌝ }
-{
-    1 << j
 }
 
 // x with each of the first `count` kept words added in turn where that makes it smaller: where it has the word's highest cell.
@@ -62,7 +55,7 @@ fn keep_rows(rows: &[u32], mask: u32) -> Kept
     while j < rows.len() {
         let r = reduce(&words, &choices, j, rows[j] & mask);
         words[j] = r.rest;
-        choices[j] = r.choice ^ cell(j);
+        choices[j] = r.choice ^ cell_of(j as u32);
         j += 1;
     }
     Kept { words, choices }

@@ -6,20 +6,13 @@ ghost use lib.ListN.{length};
 ghost use Rattle.paper.specs.Words.{width, products};
 ghost use Rattle.paper.specs.Listing.{listed, weights, search};
 ghost use Rattle.listing.specs.Searches.{searched, passes, above};
+use words::cell_of;
 use words::product_of;
 
 // What a search finds: a word and "the place of z in the list, counted from 1"; or that all of the list was tried.
 pub enum Found {
     At { z: u32, tried: u32 },
     Nothing { tried: u32 },
-}
-
-// The word that is 1 at cell c alone: "Bit i of a row is cell i; cell 0 is the lowest bit."
-fn cell_of(c: u32) -> u32
-    requires { ⌜ c < width ⌝ }
-    ensures { λ r. ⌜ r ≡ 2 ^ c ⌝ }
-{
-    1 << c
 }
 
 // Whether the product of x with each row is 0: of the rows of H, whether x is a codeword. It leaves at the first product that is not 0.

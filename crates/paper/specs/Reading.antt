@@ -9,6 +9,10 @@ use Rattle.paper.specs.Listing.{Search, found, missed, weights, search}
 use Rattle.paper.specs.Refusals.{Told, answer, refusal, unless, unlessAt}
 use Rattle.paper.specs.Sheet.{Sheet, H, M, judged}
 
+-- 10: "read word has a bit at cell n or above"
+abbrev pub strayCell : ℕ → ℕ → ℕ → Bool
+strayCell n y i = leb n i && eqb (cell y i) 1
+
 -- "the first z in the list, of weight at most t, for which y + z is a codeword"
 unfoldable pub nearest : Sheet → ℕ → ℕ → Search
 unfolding weights search
@@ -24,6 +28,6 @@ unfoldable pub reads : Sheet → ℕ → ℕ → Told
 unfolding judged first nearest
 reads s y t =
     judged s
-    (unlessAt (first width (λ i. leb (s .n) i && eqb (cell y i) 1)) 10 0
+    (unlessAt (first width (strayCell (s .n) y)) 10 0
     (unless (leb t 4) 11
     (heard s y (nearest s y t))))

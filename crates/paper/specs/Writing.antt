@@ -18,9 +18,9 @@ abbrev pub fits : ℕ → ℕ → ℕ → Bool
 fits stuck levels x = eqb (bitAnd x stuck) levels
 
 -- 8: "a stuck or level bit at cell n or above, or a level bit at a cell not stuck"
-abbrev pub misplaced : Sheet → ℕ → ℕ → ℕ → Bool
-misplaced s stuck levels i =
-    (leb (s .n) i && (eqb (cell stuck i) 1 || eqb (cell levels i) 1)) || (eqb (cell levels i) 1 && eqb (cell stuck i) 0)
+abbrev pub misplaced : ℕ → ℕ → ℕ → ℕ → Bool
+misplaced n stuck levels i =
+    (leb n i && (eqb (cell stuck i) 1 || eqb (cell levels i) 1)) || (eqb (cell levels i) 1 && eqb (cell stuck i) 0)
 
 -- "The answer is the fitting word of message w whose d .. is the smallest number, and that d"; 9 if "no word of the message fits"
 abbrev pub chosen : Sheet → ℕ → First → Told
@@ -33,5 +33,5 @@ unfolding judged first
 writes s w stuck levels =
     judged s
     (unless (ltb w (2 ^ s .k)) 7
-    (unlessAt (first width (misplaced s stuck levels)) 8 0
+    (unlessAt (first width (misplaced (s .n) stuck levels)) 8 0
     (chosen s w (first (2 ^ s .l) (λ d. fits stuck levels (wordOf s w d))))))

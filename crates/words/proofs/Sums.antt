@@ -1,16 +1,20 @@
 -- The sum of two words: a group, cell by cell and within the same cells; and the weight of a sum. Assumes nothing.
 use mathlib.Core.Path.{_≡_, refl, sym, ap, ap₂, _∙_, subst}
+use mathlib.Core.Bool.{cond}
 use mathlib.Core.Logic.{_⊎_, inl, inr, _≢_, ⊎-elim}
 use Prim.Native.Nat.{ℕ, zero, suc, _+_, _-_, _*_, _/_, _%_, _^_, _≤_, _<_, min}
 use native.Mathlib.Nat.{zero-lt-suc, mod-lt, pow-suc, zero-mul, one-mul, add-zero, le-refl, eq-zero-or-pos}
 use native.Mathlib.Numerals.{add-one}
+use native.Mathlib.Decide.{decLt}
 use native.Mathlib.Omega.{arith}
+use borrow.Author.Tests.{le-leb, lt-leb}
+use lib.Dec.{leb}
 use lib.Arith.{bin-ind}
 use lib.Pow.{pow-pos}
 use lib.Bits.{bitAnd, bitXor, xor-add-and, xor-shr, xor-comm, xor-self, xor-zero-r, xor-lt, xor-mod, xor-block, xor-shifted}
 use lib.Count.{ones, ones-step, ones-cat}
 use Rattle.paper.specs.Words.{cell, _⊕_}
-use Rattle.words.proofs.Cells.{by-half, parity, by-parity, and-half, and-odd, cell-and, cell-lt, ext-all}
+use Rattle.words.proofs.Cells.{by-half, parity, by-parity, and-half, and-odd, cell-and, cell-lt, cell-low, cell-low-above, ext-all}
 
 -- ---- the lowest cell and the rest
 
@@ -85,6 +89,14 @@ unfolding _⊕_
 ⊕-block : (n a b r s : ℕ) → r < 2 ^ n → s < 2 ^ n → (a * 2 ^ n + r) ⊕ (b * 2 ^ n + s) ≡ (a ⊕ b) * 2 ^ n + (r ⊕ s)
 unfolding _⊕_
 ⊕-block = xor-block
+
+-- the cells at n or above alone
+pub cell-strays : (x n i : ℕ) → cell (x ⊕ x % 2 ^ n) i ≡ cond (leb n i) (cell x i) 0
+cell-strays x n i = cell-⊕ x (x % 2 ^ n) i ∙ go (decLt i n)
+  where
+    go : Dec (i < n) → (cell x i + cell (x % 2 ^ n) i) % 2 ≡ cond (leb n i) (cell x i) 0
+    go (yes h) = rw (lt-leb n i h, cell-low x n i h) (omega arith)
+    go (no h) = let l : n ≤ i = omega arith in rw (le-leb n i l, cell-low-above x n i l) (omega (arith, cell-lt x i))
 
 -- two words with the same highest cell have a sum without it
 pub top-cancel : (n a b : ℕ) → 2 ^ n ≤ a → a < 2 ^ suc n → 2 ^ n ≤ b → b < 2 ^ suc n → a ⊕ b < 2 ^ n

@@ -11,7 +11,7 @@ use Rattle.listing.proofs.Step.{pow-pred, count-pred, count-one, seek-h
 use Rattle.listing.proofs.seek.Reads as seek
 use Rattle.listing.proofs.seek.Kinds as seek-kinds
 use Rattle.listing.proofs.+seek.Lts-seek as seek-lts
-use Rattle.listing.proofs.cell_of.Reads as cell-of-reads
+use Rattle.words.proofs.cell_of.Reads as cell-of-reads
 use Rattle.listing.proofs.is_hit.Reads as is-hit-reads
 use Rattle.listing.proofs.+seek.{statement}
 use Rattle.listing.proofs.+seek.Tie.{close}

@@ -1,0 +1,4 @@
+-- What the calls' proofs cite.
+mod Breaches
+mod Searching
+mod Calls

@@ -1,0 +1,2 @@
+-- The calls' answers on an admitted sheet.
+pub mod Steps

@@ -1,0 +1,39 @@
+// The judgement of the arguments: each tells the first breach of its rule.
+ghost use mathlib.Core.Path.{_≡_};
+ghost use Prim.Native.Nat.{_≤_};
+ghost use Rattle.paper.specs.First.{first};
+ghost use Rattle.paper.specs.Words.{width};
+ghost use Rattle.paper.specs.Writing.{misplaced};
+ghost use Rattle.paper.specs.Reading.{strayCell};
+ghost use Rattle.paper.specs.Plate.{capped};
+ghost use Rattle.words.specs.Places.{placed};
+use words::Place;
+use words::lowest_of;
+use words::strays_of;
+
+// 8: the lowest cell with "a stuck or level bit at cell n or above, or a level bit at a cell not stuck".
+pub fn find_misplaced(n: u32, stuck: u32, levels: u32) -> Place
+    requires { ⌜ n ≤ width ⌝ }
+    ensures { λ r. ⌜ placed r ≡ first width (misplaced n stuck levels) ⌝ }
+{
+    let loose = levels ^ (levels & stuck);
+    lowest_of(strays_of(n, stuck | levels) | loose)
+}
+
+// 10: the lowest cell at which the "read word has a bit at cell n or above".
+pub fn find_stray_cell(n: u32, y: u32) -> Place
+    requires { ⌜ n ≤ width ⌝ }
+    ensures { λ r. ⌜ placed r ≡ first width (strayCell n y) ⌝ }
+{
+    lowest_of(strays_of(n, y))
+}
+
+// 11: a cap of 1 to 8.
+pub fn is_cap(cap: u32) -> bool
+    ensures { λ r. ⌜ r ≡ capped cap ⌝ }
+{
+    if cap < 1 {
+        return false;
+    }
+    cap <= 8
+}
