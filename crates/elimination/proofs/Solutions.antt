@@ -2,7 +2,7 @@
 -- and its choice is then the least that makes it. For the loop that keeps rows and the two public functions. Assumes nothing.
 use mathlib.Core.Path.{_≡_, refl, sym, ap, ap₂, _∙_}
 use mathlib.Core.Logic.{⊎-elim}
-use mathlib.Core.List.{List, [], _∷_}
+use mathlib.Core.List.{List}
 use Prim.Native.Nat.{ℕ, zero, suc, _+_, _-_, _*_, _/_, _%_, _^_, _≤_, _<_}
 use native.Mathlib.Nat.{le-refl, pow-suc, eq-zero-or-pos}
 use native.Mathlib.Omega.{arith}
@@ -16,10 +16,9 @@ use borrow.Author.Tests.{eq-eqb, ne-eqb}
 use Rattle.paper.specs.First.{first, nowhere, at}
 use Rattle.paper.specs.Words.{sum, _⊕_}
 use Rattle.paper.specs.Sheet.{dependent}
-use Rattle.words.proofs.Cells.{half-lt}
 use Rattle.words.proofs.Firsts.{first-is, none-below, any-some, any-never}
 use Rattle.words.proofs.Sums.{sums, ⊕-self, ⊕-zero-l, ⊕-zero-r, ⊕-lt, ⊕-above}
-use Rattle.words.proofs.Rows.{sum-⊕, sum-zero, sum-unit}
+use Rattle.words.proofs.Rows.{sum-⊕, sum-zero, sum-unit, sum-take, sum-top}
 use Rattle.elimination.specs.Kept.{taken, reduced, chosen, Reduces, Keeps}
 use Rattle.elimination.proofs.Reducing.{by-order, taken-cases, taken-of-0, taken-self, reduced-passed, reduced-taken, chosen-passed, chosen-taken, reduced-⊕, chosen-⊕, reduced-set, chosen-set}
 
@@ -49,20 +48,13 @@ keeps-more rows words choices n rest choice k lw lc r =
 
 -- ---- choices of the first rows
 
--- a choice below 2 ^ n is of the first n rows
-sum-take : (n : ℕ) (rows : List ℕ) (d : ℕ) → d < 2 ^ n → sum (take n rows) d ≡ sum rows d
-unfolding sum
-sum-take zero rows d h = rw (lt-one h) (sym (sum-zero rows))
-sum-take (suc n) [] d h = refl
-sum-take (suc n) (g ∷ gs) d h = ap (λ (y : ℕ). d % 2 * g ⊕ y) (sum-take n gs (d / 2) (half-lt n h))
-
 module _ (rows : List ℕ) (n d : ℕ) (l : 2 ^ n ≤ d) (h : d < 2 ^ suc n) where
   -- a choice with row n in it is that row and a choice of the rows before it
   with-row : (d - 2 ^ n < 2 ^ n) × (sum rows d ≡ getD rows n 0 ⊕ sum rows (d - 2 ^ n))
   with-row =
       let s : d - 2 ^ n < 2 ^ n = omega (arith, pow-suc 2 n) in
-      let e : d ≡ 2 ^ n ⊕ (d - 2 ^ n) = omega (arith, ⊕-above n (d - 2 ^ n) s) in
-      (s, ap (sum rows) e ∙ sum-⊕ rows (2 ^ n) (d - 2 ^ n) ∙ ap (λ (g : ℕ). g ⊕ sum rows (d - 2 ^ n)) (sum-unit rows n))
+      let e : d ≡ d - 2 ^ n + 2 ^ n = omega arith in
+      (s, ap (sum rows) e ∙ sum-top rows n (d - 2 ^ n) s)
 
 -- what is made and what is left, after a row g with sum t and rest q is added to both
 regroup : (s r x t q g : ℕ) → s ⊕ r ≡ x → t ⊕ q ≡ g → (s ⊕ (t ⊕ g)) ⊕ (r ⊕ q) ≡ x

@@ -19,7 +19,7 @@ use Rattle.paper.specs.Sheet.{dependent}
 use Rattle.words.proofs.Cells.{by-half, parity, top}
 use Rattle.words.proofs.Sums.{sums, ⊕-assoc, ⊕-comm, ⊕-left-comm, ⊕-cancel, ⊕-self, ⊕-zero-l, ⊕-zero-r, ⊕-zero-eq, ⊕-lt}
 use Rattle.words.proofs.Products.{product-comm, product-⊕, product-zero-l, product-zero-r, products-nil, products-half, products-odd}
-use Rattle.words.proofs.Rows.{sum-nil, sum-even, sum-odd, sum-⊕, sum-mod, sum-top}
+use Rattle.words.proofs.Rows.{sum-nil, sum-even, sum-odd, sum-⊕, sum-take, sum-top}
 use Rattle.words.proofs.Firsts.{any-some}
 
 -- ---- all elements of a list
@@ -226,7 +226,8 @@ free-zero rows f d l e = ⊎-elim (λ z. z) (λ p. let t = top d p in absurd (cl
         let low : d - 2 ^ j < 2 ^ j = omega (arith, pow-suc 2 j) in
         let whole : d - 2 ^ j + 2 ^ j ≡ d = omega arith in
         let same : sum (take j rows) (d - 2 ^ j) ≡ getD rows j 0 =
-        sym (⊕-zero-eq (getD rows j 0) (sum (take j rows) (d - 2 ^ j)) (sym (sum-top rows j (d - 2 ^ j) low) ∙ ap (sum rows) whole ∙ e)) in
+        sum-take j rows (d - 2 ^ j) low
+        ∙ sym (⊕-zero-eq (getD rows j 0) (sum rows (d - 2 ^ j)) (sym (sum-top rows j (d - 2 ^ j) low) ∙ ap (sum rows) whole ∙ e)) in
         true≢false (sym (any-some _ (d - 2 ^ j) (2 ^ j) low (eq-eqb _ _ same)) ∙ f j (below (decLt j (length rows))))
       where
         below : Dec (j < length rows) → j < length rows

@@ -2,14 +2,15 @@
 use mathlib.Core.Path.{_≡_, refl, sym, ap, ap₂, _∙_}
 use mathlib.Core.List.{List, [], _∷_, _++_}
 use Prim.Native.Nat.{ℕ, zero, suc, _+_, _-_, _*_, _/_, _%_, _^_, _≤_, _<_, min}
-use native.Mathlib.Nat.{zero-mul, one-mul, div-one, mod-one, mod-eq-of-lt, pow-suc}
+use native.Mathlib.Nat.{zero-mul, one-mul, div-one, pow-suc}
 use native.Mathlib.Numerals.{add-one, one-add}
 use native.Mathlib.Omega.{arith}
+use lib.Arith.{lt-one}
 use lib.ListN.{length, getD, take, drop, drop-of-length-le}
 use lib.Seq.{drop-cons}
 use lib.Pow.{shr-shr, field, mod-mod-pow}
 use Rattle.paper.specs.Words.{product, products, sum, _⊕_}
-use Rattle.words.proofs.Cells.{by-parity}
+use Rattle.words.proofs.Cells.{by-parity, half-lt}
 use Rattle.words.proofs.Sums.{⊕-half, ⊕-odd, ⊕-assoc, ⊕-self, ⊕-swap, ⊕-zero-l, ⊕-zero-r, ⊕-above, pick-⊕}
 use Rattle.words.proofs.Products.{product-zero-l, product-zero-r, product-lt, product-step, ⊕-product, products-nil, products-half, products-odd}
 
@@ -71,16 +72,16 @@ sum-append (g ∷ gs) ys d =
     rw (sum-append gs ys (d / 2), shr-shr d 1 (length gs), one-add (length gs))
     (sym (⊕-assoc (d % 2 * g) (sum gs (d / 2)) (sum ys (d / 2 ^ suc (length gs)))))
 
--- the first j rows are what the lower j bits pick
-pub sum-take : (j : ℕ) (rows : List ℕ) (d : ℕ) → sum (take j rows) d ≡ sum rows (d % 2 ^ j)
+-- a choice below 2 ^ n is of the first n rows
+pub sum-take : (n : ℕ) (rows : List ℕ) (d : ℕ) → d < 2 ^ n → sum (take n rows) d ≡ sum rows d
 unfolding sum
-sum-take zero rows d = rw (mod-one d) (sym (sum-zero rows))
-sum-take (suc j) [] d = refl
-sum-take (suc j) (g ∷ gs) d = rw (sum-take j gs (d / 2), ← add-one j, mod-mod-pow d j 1, field d j 1)
+sum-take zero rows d h = rw (lt-one h) (sym (sum-zero rows))
+sum-take (suc n) [] d h = refl
+sum-take (suc n) (g ∷ gs) d h = ap (λ (y : ℕ). d % 2 * g ⊕ y) (sum-take n gs (d / 2) (half-lt n h))
 
 -- row j above a choice of earlier rows
-pub sum-top : (rows : List ℕ) (j e : ℕ) → e < 2 ^ j → sum rows (e + 2 ^ j) ≡ getD rows j 0 ⊕ sum (take j rows) e
-sum-top rows j e h = rw (← ⊕-above j e h, sum-⊕ rows (2 ^ j) e, sum-unit rows j, sum-take j rows e, mod-eq-of-lt h)
+pub sum-top : (rows : List ℕ) (j e : ℕ) → e < 2 ^ j → sum rows (e + 2 ^ j) ≡ getD rows j 0 ⊕ sum rows e
+sum-top rows j e h = rw (← ⊕-above j e h, sum-⊕ rows (2 ^ j) e, sum-unit rows j)
 
 -- ---- what a loop over the rows cites, from the first row up, with the sum c of those passed
 
