@@ -1,0 +1,185 @@
+//! The calls of document 01 on a lent sheet: writing, reading, and measuring d0 and d1.
+
+use crate::listing::listed;
+use crate::sheet::{
+    above, admit, bare, is_codeword, message_of, placed, product, sum_of, Parts, Refusal, Sheet,
+};
+use crate::sums::{equation, smallest_d};
+
+/// Up to this l every d is tried from 0 up; above it the equations are eliminated.
+const EVERY_D_UP_TO_L: usize = 20;
+
+/// What a call answers when it does not refuse.
+#[derive(Clone, Copy, Debug, PartialEq, Eq)]
+pub enum Answer {
+    Admitted,
+    Word { word: u32, d: u32 },
+    Message { message: u32, z: u32, tried: u32 },
+    D0(Measured),
+    D1 { measured: Measured, radius: u32 },
+}
+
+/// A measurement: the distance, or none where it is more than the cap, and the tried.
+#[derive(Clone, Copy, Debug, PartialEq, Eq)]
+pub struct Measured {
+    pub distance: Option<u32>,
+    pub tried: u32,
+}
+
+/// Admits the sheet or gives refusal 1 to 6.
+pub fn admitting(sheet: &Sheet) -> Result<Answer, Refusal> {
+    admit(sheet).map(|_| Answer::Admitted)
+}
+
+/// Writing: "the fitting word of message w whose d is the smallest number, and that d";
+/// refusals 7, 8 and 9 after those of the sheet.
+pub fn write(sheet: &Sheet, message: u32, stuck: u32, levels: u32) -> Result<Answer, Refusal> {
+    let parts = admit(sheet)?;
+    if u64::from(message) >= 1 << parts.g1.len() {
+        return Err(bare(7));
+    }
+    let wrong = ((stuck | levels) & above(parts.n)) | (levels & !stuck);
+    if wrong != 0 {
+        return Err(placed(8, wrong.trailing_zeros()));
+    }
+    let plain = sum_of(parts.g1, message);
+    let d = if parts.g0.len() <= EVERY_D_UP_TO_L {
+        first_fitting_d(&parts, plain, stuck, levels)
+    } else {
+        eliminated_d(&parts, plain, stuck, levels)
+    };
+    let d = d.ok_or(bare(9))?;
+    let word = plain ^ sum_of(parts.g0, d);
+    Ok(Answer::Word { word, d })
+}
+
+/// The first d from 0 up whose word fits: it "equals the level at every stuck cell".
+fn first_fitting_d(parts: &Parts, plain: u32, stuck: u32, levels: u32) -> Option<u32> {
+    let fits = |d: &u32| (plain ^ sum_of(parts.g0, *d)) & stuck == levels;
+    (0..1u32 << parts.g0.len()).find(fits)
+}
+
+/// The same d from one equation for each stuck cell: the rows of G0 chosen by d must
+/// turn the plain word's level into the stuck one.
+fn eliminated_d(parts: &Parts, plain: u32, stuck: u32, levels: u32) -> Option<u32> {
+    let stuck_cells = (0..parts.n).filter(|cell| stuck >> cell & 1 == 1);
+    let equations: Vec<u64> = stuck_cells
+        .map(|cell| {
+            let rows = parts.g0.iter().enumerate();
+            let column = rows.fold(0, |bits, (j, row)| bits | (row >> cell & 1) << j);
+            equation(column, (plain ^ levels) >> cell & 1 == 1)
+        })
+        .collect();
+    smallest_d(parts.g0.len(), &equations)
+}
+
+/// Reading: the first z in the list, of weight at most the radius, for which y + z is a
+/// codeword; refusals 10, 11 and 12 after those of the sheet.
+pub fn read(sheet: &Sheet, y: u32, radius: u32) -> Result<Answer, Refusal> {
+    let parts = admit(sheet)?;
+    let stray = y & above(parts.n);
+    if stray != 0 {
+        return Err(placed(10, stray.trailing_zeros()));
+    }
+    if radius > 4 {
+        return Err(bare(11));
+    }
+    let mut tried = 0;
+    for z in listed(parts.n, 0, radius) {
+        tried += 1;
+        if is_codeword(&parts, y ^ z) {
+            let message = message_of(&parts, y ^ z);
+            return Ok(Answer::Message { message, z, tried });
+        }
+    }
+    Err(placed(12, tried))
+}
+
+/// d0: "the least weight of a nonzero word whose product with every row of G0 is 0".
+pub fn d0(sheet: &Sheet, cap: u32) -> Result<Answer, Refusal> {
+    let parts = admit(sheet)?;
+    let measured = measure(&parts, cap, |word| {
+        parts.g0.iter().all(|row| !product(*row, word))
+    })?;
+    Ok(Answer::D0(measured))
+}
+
+/// d1: "the least weight of a codeword with a message other than 0", and the radius for
+/// the plate: half of d1, or half of the cap where d1 is more, rounded down.
+pub fn d1(sheet: &Sheet, cap: u32) -> Result<Answer, Refusal> {
+    let parts = admit(sheet)?;
+    let measured = measure(&parts, cap, |word| {
+        is_codeword(&parts, word) && message_of(&parts, word) != 0
+    })?;
+    let radius = measured.distance.unwrap_or(cap) / 2;
+    Ok(Answer::D1 { measured, radius })
+}
+
+/// "A measurement takes a cap of 1 to 8 and tries listed words from weight 1 up to the
+/// cap": refusal 11, the first hit and its place, or the length of the list.
+fn measure(parts: &Parts, cap: u32, hit: impl Fn(u32) -> bool) -> Result<Measured, Refusal> {
+    if !(1..=8).contains(&cap) {
+        return Err(bare(11));
+    }
+    let mut tried = 0;
+    for word in listed(parts.n, 1, cap) {
+        tried += 1;
+        if hit(word) {
+            let distance = Some(word.count_ones());
+            return Ok(Measured { distance, tried });
+        }
+    }
+    Ok(Measured {
+        distance: None,
+        tried,
+    })
+}
+
+#[cfg(test)]
+mod tests {
+    use super::*;
+    use crate::making::random_sheet;
+    use crate::random::Random;
+
+    /// Both ways to the smallest d agree, whether the levels are those of a word or not.
+    #[test]
+    fn elimination_agrees_with_every_d() {
+        let mut random = Random::new(21);
+        for _ in 0..3000 {
+            let sheet = random_sheet(&mut random);
+            let parts = admit(&sheet).expect("an admitted sheet");
+            if parts.g0.len() > 10 {
+                continue;
+            }
+            let plain = sum_of(parts.g1, random.word(sheet.k));
+            let stuck = random.word(sheet.n) & random.word(sheet.n);
+            let some_word = plain ^ sum_of(parts.g0, random.word(sheet.l));
+            for levels in [some_word & stuck, random.word(sheet.n) & stuck] {
+                assert_eq!(
+                    eliminated_d(&parts, plain, stuck, levels),
+                    first_fitting_d(&parts, plain, stuck, levels)
+                );
+            }
+        }
+    }
+
+    /// The words of a message by its definition are the sums wG1 + dG0, each from one d.
+    #[test]
+    fn words_of_a_message_are_the_sums() {
+        let mut random = Random::new(22);
+        for _ in 0..400 {
+            let sheet = random_sheet(&mut random);
+            if sheet.n > 9 {
+                continue;
+            }
+            let parts = admit(&sheet).expect("an admitted sheet");
+            let w = random.word(sheet.k);
+            let is_of_w = |word: &u32| is_codeword(&parts, *word) && message_of(&parts, *word) == w;
+            let defined: Vec<u32> = (0..1u32 << sheet.n).filter(is_of_w).collect();
+            let sum = |d| sum_of(parts.g1, w) ^ sum_of(parts.g0, d);
+            let mut sums: Vec<u32> = (0..1u32 << sheet.l).map(sum).collect();
+            sums.sort_unstable();
+            assert_eq!(defined, sums);
+        }
+    }
+}

@@ -1,0 +1,173 @@
+//! Lines that are no calls, or hardly calls: they get no answer, `unknown`, or, at the
+//! very edge of what a call may be, the answer of a call.
+
+use crate::cases::good_call;
+use crate::lines::{ROOM_FOR_LINE, ROOM_FOR_ROWS};
+use crate::random::Random;
+
+/// One line of noise.
+pub fn noise_line(random: &mut Random) -> Vec<u8> {
+    match random.below(12) {
+        0 => silent_line(random),
+        1 => wrong_verb(random),
+        2..=4 => wrong_token(random),
+        5 => token_missing_or_left_over(random),
+        6 | 7 => wrong_count(random),
+        8 => wrong_space(random),
+        9 => padded_line(random),
+        10 => too_many_rows(random),
+        _ => garbage(random),
+    }
+}
+
+/// The tokens of a good call.
+fn good_tokens(random: &mut Random) -> Vec<String> {
+    good_call(random).split(' ').map(str::to_string).collect()
+}
+
+/// One line from its tokens.
+fn joined(tokens: Vec<String>) -> Vec<u8> {
+    tokens.join(" ").into_bytes()
+}
+
+/// An empty line or a comment, which get no answer.
+fn silent_line(random: &mut Random) -> Vec<u8> {
+    let call = good_call(random);
+    match random.below(4) {
+        0 | 1 => vec![],
+        2 => b"#".to_vec(),
+        _ => format!("# {call}").into_bytes(),
+    }
+}
+
+/// A call under a verb that the base does not have.
+fn wrong_verb(random: &mut Random) -> Vec<u8> {
+    let mut tokens = good_tokens(random);
+    let verbs = [
+        "",
+        "Admit",
+        "ADMIT",
+        "admitted",
+        "admi",
+        "writ",
+        "write0",
+        "reads",
+        "red",
+        "d",
+        "d2",
+        "d00",
+        "D0",
+        "0",
+        "1",
+        "pwrite",
+        "walk",
+        "unknown",
+        "d0\t",
+        "\u{e9}crire",
+    ];
+    tokens[0] = random.one_of(&verbs).to_string();
+    if random.once_in(4) {
+        tokens.truncate(1);
+    }
+    joined(tokens)
+}
+
+/// A call with one token that is no number, or a number that its place cannot hold; or
+/// with leading zeros, which are fine.
+fn wrong_token(random: &mut Random) -> Vec<u8> {
+    let mut tokens = good_tokens(random);
+    let at = 1 + random.below(tokens.len() as u64 - 1) as usize;
+    let token = tokens[at].clone();
+    tokens[at] = match random.below(14) {
+        0 => "x".to_string(),
+        1 => format!("-{token}"),
+        2 => format!("+{token}"),
+        3 => format!("{token}."),
+        4 => format!("0x{token}"),
+        5 => format!("{token}a"),
+        6 => "4294967296".to_string(),
+        7 => "4294967297".to_string(),
+        8 => "9".repeat(random.between(10, 30) as usize),
+        9 => format!("18446744073709551616{token}"),
+        10 => "18446744073709551617".to_string(),
+        11 => String::new(),
+        12 => format!("{}{token}", "0".repeat(random.between(1, 30) as usize)),
+        _ => format!("{token}\u{663}"),
+    };
+    joined(tokens)
+}
+
+/// A call with a token taken out, one put in, or its end cut off.
+fn token_missing_or_left_over(random: &mut Random) -> Vec<u8> {
+    let mut tokens = good_tokens(random);
+    let at = random.below(tokens.len() as u64) as usize;
+    match random.below(4) {
+        0 => {
+            tokens.pop();
+        }
+        1 => tokens.push("1".to_string()),
+        2 => tokens.truncate(at),
+        _ => {
+            tokens.remove(at);
+        }
+    }
+    joined(tokens)
+}
+
+/// A call whose LIST count is not the number of its rows.
+fn wrong_count(random: &mut Random) -> Vec<u8> {
+    let mut tokens = good_tokens(random);
+    let count: u32 = tokens[4].parse().expect("a count");
+    let other = random.one_of(&[count - 1, count + 1, count + 2, 0, 64, 65, u32::MAX]);
+    tokens[4] = other.to_string();
+    joined(tokens)
+}
+
+/// A call with a space too many, or with something else at the place of a space.
+fn wrong_space(random: &mut Random) -> Vec<u8> {
+    let call = good_call(random);
+    let line = match random.below(8) {
+        0 => format!(" {call}"),
+        1 => format!("{call} "),
+        2 => call.replacen(' ', "  ", 1),
+        3 => format!("{call}\r"),
+        4 => call.replacen(' ', "\t", 1),
+        5 => " ".to_string(),
+        6 => format!("0 {call}"),
+        _ => {
+            let at = call.rfind(' ').expect("a space");
+            format!("{} {}", &call[..at], &call[at..])
+        }
+    };
+    line.into_bytes()
+}
+
+/// A call whose last number is padded with zeros to the room for a line, or past it.
+fn padded_line(random: &mut Random) -> Vec<u8> {
+    let call = good_call(random);
+    let length = match random.below(4) {
+        0 => ROOM_FOR_LINE - 1,
+        1 => ROOM_FOR_LINE,
+        2 => ROOM_FOR_LINE + 1,
+        _ => ROOM_FOR_LINE + 1 + random.below(4000) as usize,
+    };
+    let at = call.rfind(' ').expect("a space") + 1;
+    let zeros = "0".repeat(length - call.len());
+    format!("{}{zeros}{}", &call[..at], &call[at..]).into_bytes()
+}
+
+/// As many rows as there is room for, or one or some more, with the right count.
+fn too_many_rows(random: &mut Random) -> Vec<u8> {
+    let more = random.one_of(&[0, 1, 2, 36]);
+    let count = ROOM_FOR_ROWS + more;
+    let rows = (0..count).map(|_| format!(" {}", random.below(128)));
+    let line = format!("admit 32 32 0 {count}{}", rows.collect::<String>());
+    line.into_bytes()
+}
+
+/// Any bytes but newlines.
+fn garbage(random: &mut Random) -> Vec<u8> {
+    let length = random.between(1, 60);
+    let bytes = (0..length).map(|_| random.below(256) as u8);
+    bytes.filter(|byte| *byte != b'\n').collect()
+}
