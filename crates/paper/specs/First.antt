@@ -2,6 +2,7 @@
 use mathlib.Core.Bool.{Bool, true, false}
 use Prim.Native.Nat.{ℕ, zero, suc}
 
+-- a number, or that there is none
 pub data First : Type 0 where
   nowhere : First
   at : ℕ → First
@@ -17,6 +18,7 @@ unfoldable pub first : ℕ → (ℕ → Bool) → First
 first zero p = nowhere
 first (suc n) p = orAt (first n p) n (p n)
 
+-- whether there is one
 abbrev pub isSomewhere : First → Bool
 isSomewhere (at i) = true
 isSomewhere nowhere = false

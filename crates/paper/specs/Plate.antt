@@ -41,6 +41,7 @@ unfoldable pub searchD0 : Sheet → ℕ → Search
 unfolding weights search
 searchD0 s cap = search (λ z. eqb (products (G0 s) z) 0) 0 (weights (s .n) 1 cap)
 
+-- the same for d1
 unfoldable pub searchD1 : Sheet → ℕ → Search
 unfolding weights search
 searchD1 s cap = search (λ z. eqb (products (H s) z) 0 && not (eqb (products (M s) z) 0)) 0 (weights (s .n) 1 cap)
@@ -55,6 +56,7 @@ abbrev pub plateD0 : Search → Told
 plateD0 (found z tried) = answer (weight z ∷ tried ∷ [])
 plateD0 (missed tried) = more (tried ∷ [])
 
+-- the same, and it "also answers the radius to print on the plate"
 abbrev pub plateD1 : ℕ → Search → Told
 plateD1 cap (found z tried) = answer (weight z ∷ tried ∷ printed cap (found z tried) ∷ [])
 plateD1 cap (missed tried) = more (tried ∷ printed cap (missed tried) ∷ [])
@@ -63,11 +65,12 @@ plateD1 cap (missed tried) = more (tried ∷ printed cap (missed tried) ∷ [])
 abbrev pub capped : ℕ → Bool
 capped cap = leb 1 cap && leb cap 8
 
--- what measuring answers: 1 to 6; then "11 for measuring"
+-- what measuring d0 answers: 1 to 6; then "11 for measuring"
 unfoldable pub measuresD0 : Sheet → ℕ → Told
 unfolding judged searchD0
 measuresD0 s cap = judged s (unless (capped cap) 11 (plateD0 (searchD0 s cap)))
 
+-- what measuring d1 answers
 unfoldable pub measuresD1 : Sheet → ℕ → Told
 unfolding judged searchD1
 measuresD1 s cap = judged s (unless (capped cap) 11 (plateD1 cap (searchD1 s cap)))

@@ -20,19 +20,23 @@ pub record Sheet : Type 0 where
 abbrev pub sheet : ℕ → ℕ → ℕ → List ℕ → Sheet
 sheet n k l rows = record { n = n; k = k; l = l; rows = rows }
 
+-- "r = n - k - l"
 abbrev pub r : Sheet → ℕ
 r s = s .n - (s .k + s .l)
 
--- "in this order: k rows of G1, l rows of G0, r rows of H, k rows of M (the message inverse)"
+-- "in this order: k rows of G1"
 abbrev pub G1 : Sheet → List ℕ
 G1 s = take (s .k) (s .rows)
 
+-- "l rows of G0"
 abbrev pub G0 : Sheet → List ℕ
 G0 s = take (s .l) (drop (s .k) (s .rows))
 
+-- "r rows of H"
 abbrev pub H : Sheet → List ℕ
 H s = take (r s) (drop (s .k + s .l) (s .rows))
 
+-- "k rows of M (the message inverse)"
 abbrev pub M : Sheet → List ℕ
 M s = take (s .k) (drop (s .n) (s .rows))
 
@@ -48,11 +52,11 @@ shaped s = leb 1 (s .n) && leb (s .n) width && leb 1 (s .k) && leb (s .k + s .l)
 abbrev pub stray : Sheet → ℕ → Bool
 stray s i = leb (2 ^ s .n) (getD (s .rows) i 0)
 
--- the product wanted of row i with row j of the others: `own` if i is j, else 0
+-- the product wanted of row i of G with row j of the others: `own` if i is j, else 0 (a row of G0 has a number i of k or more, and j is below k)
 abbrev pub wanted : ℕ → ℕ → ℕ → ℕ
 wanted own i j = cond (eqb i j) own 0
 
--- row i of gs has another product than the one wanted with some row of the others
+-- row i of the rows gs has another product than the one wanted with some row of the others
 abbrev pub off : ℕ → List ℕ → List ℕ → ℕ → Bool
 off own gs others i = any (length others) (λ j. not (eqb (product (getD gs i 0) (getD others j 0)) (wanted own i j)))
 
