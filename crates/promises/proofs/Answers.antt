@@ -17,12 +17,14 @@ use Rattle.paper.specs.Listing.{Search, found, missed}
 use Rattle.paper.specs.Refusals.{Told}
 use Rattle.paper.specs.Sheet.{Sheet, Admitted}
 use Rattle.paper.specs.Writing.{wordOf, fits, misplaced, chosen, writes}
-use Rattle.paper.specs.Reading.{nearest, heard, reads}
+use Rattle.paper.specs.Reading.{strayCell, nearest, heard, reads}
 use Rattle.paper.specs.Plate.{searchD0, searchD1, plateD0, plateD1, capped, measuresD0, measuresD1}
 use Rattle.words.proofs.Cells.{cell-cases, cell-and, cell-above, cell-low, cell-low-above, cell-lt, ext}
 use Rattle.words.proofs.Firsts.{none-below, first-all}
-use Rattle.promises.proofs.Tests.{both}
-use Rattle.promises.proofs.Stages.{rank, past, past-at, past-judged, then-2, then-3}
+use Rattle.sheet.proofs.Rules.{rank, past, past-at}
+use Rattle.sheet.proofs.Verdicts.{past-judged}
+use Rattle.store.proofs.Breaches.{placed-cell, levels-inside, capped-true}
+use Rattle.promises.proofs.Stages.{then-2, then-3}
 
 -- ---- good arguments
 
@@ -40,57 +42,35 @@ below n w x h f = rw (ext w h (lt-of-le-of-lt (mod-le x (2 ^ n)) h) (λ i l. go 
     go i l (no p) = f i l (omega arith) ∙ sym (cell-low-above x n i (omega arith))
 
 module _ (s : Sheet) (stuck levels : ℕ) where
-  -- what rule 8 asks of one cell
-  placed-at : (i : ℕ) → (misplaced (s .n) stuck levels i ≡ false) ↔ ((s .n ≤ i → cell stuck i ≡ 0) × (cell levels i ≤ cell stuck i))
-  placed-at i = (λ e. to e (cell-cases stuck i) (cell-cases levels i), λ h. from h (leb (s .n) i) refl (cell-cases stuck i) (cell-cases levels i))
-    where
-      to : misplaced (s .n) stuck levels i ≡ false → (cell stuck i ≡ 0) ⊎ (cell stuck i ≡ 1) → (cell levels i ≡ 0) ⊎ (cell levels i ≡ 1)
-          → (s .n ≤ i → cell stuck i ≡ 0) × (cell levels i ≤ cell stuck i)
-      to e (inl p) (inl q) = (λ l. p, omega arith)
-      to e (inl p) (inr q) = absurd (true≢false (sym (rw (p, q, or-true)) ∙ e))
-      to e (inr p) q = (λ l. absurd (true≢false (sym (rw (le-leb (s .n) i l, p)) ∙ e)), omega (arith, cell-lt levels i))
-
-      from : (s .n ≤ i → cell stuck i ≡ 0) × (cell levels i ≤ cell stuck i) → (b : Bool) → leb (s .n) i ≡ b
-          → (cell stuck i ≡ 0) ⊎ (cell stuck i ≡ 1) → (cell levels i ≡ 0) ⊎ (cell levels i ≡ 1) → misplaced (s .n) stuck levels i ≡ false
-      from h b e (inl p) (inl q) = rw (p, q, and-false)
-      from h b e (inl p) (inr q) = absurd (omega (arith, h .1))
-      from h true e (inr p) q = absurd (omega (arith, h .0 (leb-true (s .n) i e)))
-      from h false e (inr p) q = rw (e, p, and-false)
-
   -- good stuck cells pass rule 8
   pub placed : Stuck s stuck levels → first width (misplaced (s .n) stuck levels) ≡ nowhere
   placed h =
       none-below _ width
-      (λ i l. placed-at i .1 (cell-above (h .cells) i, omega (arith, cell-and levels stuck i, ap (λ (x : ℕ). cell x i) (h .inside))))
+      (λ i l. placed-cell (s .n) stuck levels i .1 (cell-above (h .cells) i, omega (arith, cell-and levels stuck i, ap (λ (x : ℕ). cell x i) (h .inside))))
 
   -- and, of words of the machine, only they
   pub placed-only : stuck < 2 ^ width → levels < 2 ^ width → (first width (misplaced (s .n) stuck levels) ≡ nowhere) ↔ Stuck s stuck levels
   placed-only low low′ = (
     λ e. record {
-      cells = below (s .n) width stuck low (λ i l. placed-at i .0 (first-all _ width i e l) .0);
-      inside = ext width (and-lt width levels stuck low′ low) low′
-          (λ i l. cell-and levels stuck i ∙ omega (arith, placed-at i .0 (first-all _ width i e l) .1));
+      cells = below (s .n) width stuck low (λ i l. placed-cell (s .n) stuck levels i .0 (first-all _ width i e l) .0);
+      inside = levels-inside width (s .n) stuck levels low′ e;
     },
     placed,
   )
 
--- 10: "read word has a bit at cell n or above"
-abbrev pub strays : Sheet → ℕ → ℕ → Bool
-strays s y i = leb (s .n) i && eqb (cell y i) 1
-
 -- a word over n cells passes rule 10
-pub unstrayed : (s : Sheet) (y : ℕ) → y < 2 ^ s .n → first width (strays s y) ≡ nowhere
+pub unstrayed : (s : Sheet) (y : ℕ) → y < 2 ^ s .n → first width (strayCell (s .n) y) ≡ nowhere
 unstrayed s y h = none-below _ width (λ i l. go i (leb (s .n) i) refl)
   where
-    go : (i : ℕ) (b : Bool) → leb (s .n) i ≡ b → strays s y i ≡ false
+    go : (i : ℕ) (b : Bool) → leb (s .n) i ≡ b → strayCell (s .n) y i ≡ false
     go i true e = rw (e, cell-above h i (leb-true (s .n) i e))
     go i false e = rw e
 
 -- and, of words of the machine, only it
-pub unstrayed-only : (s : Sheet) (y : ℕ) → y < 2 ^ width → (first width (strays s y) ≡ nowhere) ↔ (y < 2 ^ s .n)
+pub unstrayed-only : (s : Sheet) (y : ℕ) → y < 2 ^ width → (first width (strayCell (s .n) y) ≡ nowhere) ↔ (y < 2 ^ s .n)
 unstrayed-only s y h = (λ e. below (s .n) width y h (λ i l m. go e i l m (cell-cases y i)), unstrayed s y)
   where
-    go : first width (strays s y) ≡ nowhere → (i : ℕ) → i < width → s .n ≤ i → (cell y i ≡ 0) ⊎ (cell y i ≡ 1) → cell y i ≡ 0
+    go : first width (strayCell (s .n) y) ≡ nowhere → (i : ℕ) → i < width → s .n ≤ i → (cell y i ≡ 0) ⊎ (cell y i ≡ 1) → cell y i ≡ 0
     go e i l m (inl p) = p
     go e i l m (inr p) = absurd (true≢false (sym (rw (le-leb (s .n) i m, p)) ∙ first-all _ width i e l))
 
@@ -101,9 +81,6 @@ abbrev pub fitting : Sheet → ℕ → ℕ → ℕ → First
 fitting s w stuck levels = first (2 ^ s .l) (λ d. fits stuck levels (wordOf s w d))
 
 -- rule 11 of measuring is passed by the caps "of 1 to 8"
-pub capped-true : (cap : ℕ) → (capped cap ≡ true) ↔ ((1 ≤ cap) × (cap ≤ 8))
-capped-true cap = (λ e. let b = both (leb 1 cap) (leb cap 8) e in (leb-true 1 cap (b .0), leb-true cap 8 (b .1)), λ h. rw (le-leb 1 cap (h .0), le-leb cap 8 (h .1)))
-
 module _ (s : Sheet) where
   -- past rules 1 to 8
   pub write-told : (w stuck levels : ℕ) (t : Told) → 8 < rank t
@@ -118,10 +95,10 @@ module _ (s : Sheet) where
   -- past rules 1 to 6, 10 and 11
   pub read-told : (y radius : ℕ) (t : Told) → 11 < rank t
       → (reads s y radius ≡ t)
-      ↔ (Admitted s × (first width (strays s y) ≡ nowhere) × (radius ≤ 4) × (heard s y (nearest s y radius) ≡ t))
+      ↔ (Admitted s × (first width (strayCell (s .n) y) ≡ nowhere) × (radius ≤ 4) × (heard s y (nearest s y radius) ≡ t))
   unfolding reads
   read-told y radius t h =
-      then-3 (past-judged s _ t (omega arith)) (past-at 10 _ (first width (strays s y)) 0 t (omega arith))
+      then-3 (past-judged s _ t (omega arith)) (past-at 10 _ (first width (strayCell (s .n) y)) 0 t (omega arith))
       (past 11 _ (leb radius 4) (leb-true radius 4, le-leb radius 4) t h) Iff·rfl
 
   -- past rules 1 to 6 and 11

@@ -1,7 +1,7 @@
 -- Demand 3: "the plate (d0, d1) is true", a theorem for each of its sentences, of the calls as they answer.
 -- First stuck cells and d0, then reading back and d1, then the noise that no radius undoes. Assumes nothing.
 use mathlib.Core.Path.{_≡_, refl, sym, ap, ap₂, _∙_, subst}
-use mathlib.Core.Bool.{Bool, true, _&&_, true≢false}
+use mathlib.Core.Bool.{Bool, true, _&&_, true≢false, and-eq-true-iff}
 use mathlib.Core.Logic.{_⊎_, inl, inr, _↔_}
 use mathlib.Core.List.{[], _∷_}
 use Prim.Native.Nat.{ℕ, _+_, _*_, _/_, _%_, _^_, _≤_, _<_}
@@ -22,14 +22,14 @@ use Rattle.paper.specs.Writing.{wordOf, fits, chosen, writes}
 use Rattle.paper.specs.Reading.{reads}
 use Rattle.paper.specs.Plate.{Masked, Hidden, D0, D1, measuresD0, measuresD1}
 use Rattle.words.proofs.Cells.{and-and}
-use Rattle.words.proofs.Sums.{sums, ⊕-cancel, ⊕-self, ⊕-zero-l, ⊕-zero-r, ⊕-zero-eq, ⊕-lt, and-⊕, ones-⊕, ones-and-le, weight-split}
+use Rattle.words.proofs.Sums.{sums, ⊕-cancel, ⊕-self, ⊕-zero-l, ⊕-zero-r, ⊕-zero-eq, ⊕-lt, on-mask, ones-⊕, ones-and-le, weight-split}
 use Rattle.words.proofs.Products.{product-cases, product-⊕, product-some, product-mask, product-zero-l, products-⊕, products-zero}
 use Rattle.words.proofs.Firsts.{first-at, first-all, any-some}
 use Rattle.elimination.specs.Evidence.{Evidence}
 use Rattle.elimination.proofs.Alternative.{alternative, never-both}
 use Rattle.listing.specs.Searches.{Before}
 use Rattle.sheet.proofs.Verdicts.{sound}
-use Rattle.promises.proofs.Tests.{both, fails, not-below, any-at, nonzero}
+use Rattle.promises.proofs.Tests.{fails, not-below, any-at, nonzero}
 use Rattle.promises.proofs.Answers.{Stuck, fitting, placed, writes-on}
 use Rattle.promises.proofs.Order.{write-9}
 use Rattle.promises.proofs.Writing.{written-fits, writes-free}
@@ -41,22 +41,8 @@ use Rattle.promises.proofs.Plate.{hides, hides-only, hidden-decides, mo
 -- a word fits exactly if its sum of G0 has, at the stuck cells, the levels turned over where the message's sum of G1 has a 1
 matches : (s : Sheet) (w stuck levels d : ℕ) → bitAnd levels stuck ≡ levels
     → (fits stuck levels (wordOf s w d) ≡ true) ↔ (bitAnd (sum (G0 s) d) stuck ≡ bitAnd (sum (G1 s) w ⊕ levels) stuck)
-matches s w stuck levels d h = (λ e. move (bitAnd g stuck) _ _ (sym (at-mask g c) ∙ eqb-true _ _ e) ∙ sym target, λ e. eq-eqb _ _ (at-mask g c ∙ sym (move _ _ _ (sym (e ∙ target)))))
-  where
-    g : ℕ
-    g = sum (G1 s) w
-
-    c : ℕ
-    c = sum (G0 s) d
-
-    at-mask : (a b : ℕ) → bitAnd (a ⊕ b) stuck ≡ bitAnd a stuck ⊕ bitAnd b stuck
-    at-mask a b = rw (and-comm (a ⊕ b) stuck, and-comm a stuck, and-comm b stuck) (and-⊕ stuck a b)
-
-    target : bitAnd (g ⊕ levels) stuck ≡ bitAnd g stuck ⊕ levels
-    target = at-mask g levels ∙ ap (λ (x : ℕ). bitAnd g stuck ⊕ x) h
-
-    move : (a b v : ℕ) → a ⊕ b ≡ v → b ≡ a ⊕ v
-    move a b v e = sym (⊕-cancel a b) ∙ ap (λ (x : ℕ). a ⊕ x) e
+matches s w stuck levels d h =
+    let i = on-mask (sum (G1 s) w) (sum (G0 s) d) levels stuck h in (λ e. i .0 (eqb-true _ _ e), λ e. eq-eqb _ _ (i .1 e))
 
 module _ (s : Sheet) (ok : Admitted s) (w : ℕ) (message : w < 2 ^ s .k) where
   module _ (stuck levels : ℕ) (good : Stuck s stuck levels) where
@@ -218,8 +204,8 @@ module _ (s : Sheet) (d1 : ℕ) (D : D1 s d1) where
 
   pair-of : (a b : ℕ) → a < 2 ^ s .n → b < 2 ^ s .n → pairs a b ≡ true → Pair a b
   pair-of a b l m e =
-      let p = both (eqb (ones a) (d1 / 2)) (eqb (ones b) ((d1 + 1) / 2) && hides s (a ⊕ b)) e in
-      let q = both (eqb (ones b) ((d1 + 1) / 2)) (hides s (a ⊕ b)) (p .1) in
+      let p = and-eq-true-iff (eqb (ones a) (d1 / 2)) (eqb (ones b) ((d1 + 1) / 2) && hides s (a ⊕ b)) .0 e in
+      let q = and-eq-true-iff (eqb (ones b) ((d1 + 1) / 2)) (hides s (a ⊕ b)) .0 (p .1) in
       record {
         left-low = l;
         right-low = m;

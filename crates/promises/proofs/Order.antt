@@ -15,11 +15,14 @@ use Rattle.paper.specs.Listing.{Search, found, missed}
 use Rattle.paper.specs.Refusals.{Told, answer, refusal, unless, unlessAt}
 use Rattle.paper.specs.Sheet.{Sheet, shaped, judged, admits, Admitted}
 use Rattle.paper.specs.Writing.{wordOf, fits, misplaced, chosen, writes}
-use Rattle.paper.specs.Reading.{nearest, heard, reads}
+use Rattle.paper.specs.Reading.{strayCell, nearest, heard, reads}
 use Rattle.paper.specs.Plate.{searchD0, searchD1, capped, measuresD0, measuresD1}
 use Rattle.words.proofs.Firsts.{none-below, first-all}
-use Rattle.promises.proofs.Stages.{rank, past, past-at, own, own-at, later, later-at, stray-row, code-row, message-row, G0-row, H-row, past-judged, sheet-told, then-1, then-2, then-3, last-3}
-use Rattle.promises.proofs.Answers.{strays, fitting, capped-true, chosen-late, heard-late, plateD0-late, plateD1-late, write-told, read-told}
+use Rattle.sheet.proofs.Rules.{rank, past, past-at, own, own-at, later, later-at}
+use Rattle.sheet.proofs.Verdicts.{stray-row, code-row, message-row, G0-row, H-row, past-judged, sheet-told}
+use Rattle.store.proofs.Breaches.{capped-true}
+use Rattle.promises.proofs.Stages.{then-1, then-2, then-3, last-3}
+use Rattle.promises.proofs.Answers.{fitting, chosen-late, heard-late, plateD0-late, plateD1-late, write-told, read-told}
 
 -- ---- 1 to 6: "the row given is the first row in sheet order at which the rule breaks; a rule is tried on all rows before the next rule"
 
@@ -182,25 +185,25 @@ module _ (s : Sheet) where
     -- 1 to 6
     pub read-sheet : (number : ℕ) (given : List ℕ) → number ≤ 6 → (reads s y radius ≡ refusal number given) ↔ (admits s ≡ refusal number given)
     unfolding reads
-    read-sheet = sheet-told s _ (later-at 10 _ (omega arith) (omega (arith, late-11)) (first width (strays s y)) 0)
+    read-sheet = sheet-told s _ (later-at 10 _ (omega arith) (omega (arith, late-11)) (first width (strayCell (s .n) y)) 0)
 
     -- 10: "read word has a bit at cell n or above", with "the lowest such cell"
-    pub read-10 : (c : ℕ) → (reads s y radius ≡ refusal 10 (c ∷ [])) ↔ (Admitted s × (first width (strays s y) ≡ at c))
+    pub read-10 : (c : ℕ) → (reads s y radius ≡ refusal 10 (c ∷ [])) ↔ (Admitted s × (first width (strayCell (s .n) y) ≡ at c))
     unfolding reads
     read-10 c =
         then-1 (past-judged s _ (refusal 10 (c ∷ [])) (omega arith))
-        (own-at 10 _ (first width (strays s y)) 0 c c (zero-add c) late-11)
+        (own-at 10 _ (first width (strayCell (s .n) y)) 0 c c (zero-add c) late-11)
 
     -- 11: "radius above 4"
-    pub read-11 : (reads s y radius ≡ refusal 11 []) ↔ (Admitted s × (first width (strays s y) ≡ nowhere) × (4 < radius))
+    pub read-11 : (reads s y radius ≡ refusal 11 []) ↔ (Admitted s × (first width (strayCell (s .n) y) ≡ nowhere) × (4 < radius))
     unfolding reads
     read-11 =
-        then-2 (past-judged s _ (refusal 11 []) (omega arith)) (past-at 10 _ (first width (strays s y)) 0 (refusal 11 []) (omega arith))
+        then-2 (past-judged s _ (refusal 11 []) (omega arith)) (past-at 10 _ (first width (strayCell (s .n) y)) 0 (refusal 11 []) (omega arith))
         (own 11 _ (leb radius 4) (leb-false radius 4, lt-leb radius 4) (heard-late s y (nearest s y radius)))
 
     -- 12: "no codeword within the radius", with the "number tried: all of the list"
     pub read-12 : (tried : ℕ) → (reads s y radius ≡ refusal 12 (tried ∷ []))
-        ↔ (Admitted s × (first width (strays s y) ≡ nowhere) × (radius ≤ 4) × (nearest s y radius ≡ missed tried))
+        ↔ (Admitted s × (first width (strayCell (s .n) y) ≡ nowhere) × (radius ≤ 4) × (nearest s y radius ≡ missed tried))
     read-12 tried = last-3 (read-told s y radius (refusal 12 (tried ∷ [])) (omega arith)) (unheard s y (nearest s y radius) tried)
 
   -- 1 to 6

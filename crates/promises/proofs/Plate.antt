@@ -1,7 +1,7 @@
 -- The plate: both distances exist and are at least 1, and "A measured distance equals the defined one".
 -- Demand 3 speaks of the distances as defined here; the rest of it starts from these. Assumes nothing.
 use mathlib.Core.Path.{_≡_, refl, sym, ap, _∙_, subst}
-use mathlib.Core.Bool.{Bool, true, not, _&&_}
+use mathlib.Core.Bool.{and-eq-true-iff, Bool, true, not, _&&_}
 use mathlib.Core.List.{[], _∷_}
 use Prim.Native.Nat.{ℕ, _+_, _/_, _^_, _≤_, _<_}
 use native.Mathlib.Nat.{zero-lt-suc}
@@ -26,7 +26,7 @@ use Rattle.sheet.specs.Sound.{Sound}
 use Rattle.sheet.proofs.Verdicts.{sound}
 use Rattle.sheet.proofs.Messages.{clear-sum, read-back, word-of}
 use Rattle.listing.proofs.Searched.{found-first, missed-none, hit-found}
-use Rattle.promises.proofs.Tests.{both, not-below, nonzero}
+use Rattle.promises.proofs.Tests.{not-below, nonzero}
 use Rattle.promises.proofs.Answers.{measure-d0-told, measure-d1-told, measuresD0-on, measuresD1-on}
 use Rattle.promises.proofs.Places.{Placed, found-placed}
 use Rattle.promises.proofs.Reading.{before-weight, before-all}
@@ -134,7 +134,7 @@ module _ (s : Sheet) where
 
   pub hides-only : (x : ℕ) → x < 2 ^ s .n → hides s x ≡ true → Hidden s x
   hides-only x l e =
-      let b = both (eqb (products (H s) x) 0) (not (eqb (products (M s) x) 0)) e in
+      let b = and-eq-true-iff (eqb (products (H s) x) 0) (not (eqb (products (M s) x) 0)) .0 e in
       record {
         code = record { cells = l; checks = eqb-true _ _ (b .0) };
         message = nonzero (eqb-false _ _ (not-true _ (b .1)));

@@ -20,7 +20,7 @@ use Rattle.words.proofs.Sums.{⊕-cancel, ⊕-lt}
 use Rattle.listing.specs.Searches.{Before}
 use Rattle.listing.proofs.Searched.{found-first, missed-none, hit-found}
 use Rattle.promises.proofs.Tests.{not-below}
-use Rattle.promises.proofs.Stages.{rank}
+use Rattle.sheet.proofs.Rules.{rank}
 use Rattle.promises.proofs.Answers.{read-told, reads-on}
 use Rattle.promises.proofs.Order.{read-12}
 use Rattle.promises.proofs.Places.{Placed, found-placed}

@@ -1,17 +1,12 @@
 -- What tests that hold, or fail below a number, say of it.
 -- Small steps that several files take. Assumes nothing.
 use mathlib.Core.Path.{_≡_, refl, sym, _∙_}
-use mathlib.Core.Bool.{Bool, true, false, _&&_, true≢false}
+use mathlib.Core.Bool.{Bool, true, false, true≢false}
 use Prim.Native.Nat.{ℕ, _≤_, _<_}
 use native.Mathlib.Decide.{decLt}
 use native.Mathlib.Omega.{arith}
 use Rattle.paper.specs.First.{First, nowhere, at, first, isSomewhere, any}
 use Rattle.words.proofs.Firsts.{first-at}
-
--- two tests that both hold
-pub both : (a b : Bool) → (a && b) ≡ true → (a ≡ true) × (b ≡ true)
-both true b e = (refl, e)
-both false b e = absurd (true≢false (sym e))
 
 -- a test that does not hold fails
 pub fails : (b : Bool) → (b ≡ true → ⊥) → b ≡ false

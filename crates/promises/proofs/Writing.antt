@@ -16,7 +16,7 @@ use Rattle.words.proofs.Firsts.{first-at, first-is}
 use Rattle.sheet.proofs.Verdicts.{sound}
 use Rattle.sheet.proofs.Messages.{word-of, words-of}
 use Rattle.promises.proofs.Tests.{not-below}
-use Rattle.promises.proofs.Stages.{rank}
+use Rattle.sheet.proofs.Rules.{rank}
 use Rattle.promises.proofs.Answers.{Stuck, fitting, placed, write-told, writes-on}
 use Rattle.promises.proofs.Order.{write-9}
 

@@ -1,7 +1,7 @@
 -- What the verdict on a sheet says: a refused sheet is refused by every call alike, and an admitted one is sound. Assumes nothing.
 use mathlib.Core.Path.{_≡_, refl, sym, ap, ap₂, _∙_, subst}
-use mathlib.Core.Bool.{Bool, true, false, cond, not, _&&_, true≢false}
-use mathlib.Core.Logic.{_⊎_, inl, inr}
+use mathlib.Core.Bool.{Bool, true, false, cond, not, _&&_, true≢false, and-eq-true-iff}
+use mathlib.Core.Logic.{_↔_, Iff·rfl}
 use mathlib.Core.List.{List, [], _∷_, _++_}
 use Prim.Native.Nat.{ℕ, zero, suc, _+_, _-_, _^_, _≤_, _<_}
 use native.Mathlib.Decide.{ℕ-discrete}
@@ -23,10 +23,67 @@ use Rattle.words.proofs.Products.{product-comm, cell-products, products-lt}
 use Rattle.words.proofs.Firsts.{first-all, any-all}
 use Rattle.elimination.proofs.Span.{All, Low, Free}
 use Rattle.sheet.specs.Sound.{Shaped, Sound}
+use Rattle.sheet.proofs.Rules.{rank, past, past-at}
 
--- ---- a rule refuses whatever comes next, or passes to it
+-- ---- an admitted sheet passes each rule
 
-pub data Stage (f : Told → Told) : Type 0 where
+-- the rows at which rules 2 to 6 first break, counted in their parts of the sheet
+abbrev pub stray-row : Sheet → First
+stray-row s = first (length (s .rows)) (stray s)
+
+abbrev pub code-row : Sheet → First
+code-row s = first (s .k + s .l) (offCode s)
+
+abbrev pub message-row : Sheet → First
+message-row s = first (s .k + s .l) (offMessage s)
+
+abbrev pub G0-row : Sheet → First
+G0-row s = first (s .l) (dependent (G0 s))
+
+abbrev pub H-row : Sheet → First
+H-row s = first (r s) (dependent (H s))
+
+pub record Passed (s : Sheet) : Type 0 where
+  pub shape : shaped s ≡ true
+  pub strays : stray-row s ≡ nowhere
+  pub codes : code-row s ≡ nowhere
+  pub messages : message-row s ≡ nowhere
+  pub sums-G0 : G0-row s ≡ nowhere
+  pub sums-H : H-row s ≡ nowhere
+
+-- what a later rule tells, or an answer, is told past the first six rules
+through : (s : Sheet) (next t : Told) → 6 < rank t → judged s next ≡ t → Passed s × (next ≡ t)
+unfolding judged
+through s next t h e =
+    let a = past 1 _ (shaped s) Iff·rfl t (omega arith) .0 e in
+    let b = past-at 2 _ (stray-row s) 0 t (omega arith) .0 (a .1) in
+    let c = past-at 3 _ (code-row s) 0 t (omega arith) .0 (b .1) in
+    let d = past-at 4 _ (message-row s) 0 t (omega arith) .0 (c .1) in
+    let f = past-at 5 _ (G0-row s) (s .k) t (omega arith) .0 (d .1) in
+    let g = past-at 6 next (H-row s) (s .k + s .l) t (omega arith) .0 (f .1) in
+    (record { shape = a .0; strays = b .0; codes = c .0; messages = d .0; sums-G0 = f .0; sums-H = g .0 }, g .1)
+
+-- and a sheet that passes them passes to what comes next
+passed-next : (s : Sheet) → Passed s → (next : Told) → judged s next ≡ next
+unfolding judged
+passed-next s p next = rw (p .shape, p .strays, p .codes, p .messages, p .sums-G0, p .sums-H)
+
+passed : (s : Sheet) → Admitted s → Passed s
+passed s ok = through s (answer []) (answer []) (omega arith) ok .0
+
+-- an admitted sheet passes to what comes next
+pub admitted-next : (s : Sheet) → Admitted s → (next : Told) → judged s next ≡ next
+admitted-next s ok = passed-next s (passed s ok)
+
+-- "Order: 1 to 6 for every call": what a later rule tells, or an answer, is told of admitted sheets alone
+pub past-judged : (s : Sheet) (next t : Told) → 6 < rank t → (judged s next ≡ t) ↔ (Admitted s × (next ≡ t))
+past-judged s next t h =
+    (λ e. let q = through s next t h e in (passed-next s (q .0) (answer []), q .1), λ p. admitted-next s (p .0) next ∙ p .1)
+
+-- ---- a refused sheet is refused alike by every call
+
+-- a rule refuses whatever comes next, or passes to it
+data Stage (f : Told → Told) : Type 0 where
   passes : ((next : Told) → f next ≡ next) → Stage f
   refuses : (number : ℕ) (given : List ℕ) → ((next : Told) → f next ≡ refusal number given) → Stage f
 
@@ -43,7 +100,7 @@ then {f} {g} (passes p) (passes q) = passes (λ next. p (g next) ∙ q next)
 then {f} {g} (passes p) (refuses number given q) = refuses number given (λ next. p (g next) ∙ q next)
 then {f} {g} (refuses number given p) q = refuses number given (λ next. p (g next))
 
-pub judged-stage : (s : Sheet) → Stage (judged s)
+judged-stage : (s : Sheet) → Stage (judged s)
 unfolding judged
 judged-stage s =
     then (unless-stage (shaped s) 1)
@@ -53,24 +110,22 @@ judged-stage s =
     (then (unlessAt-stage (first (s .l) (dependent (G0 s))) 5 (s .k))
     (unlessAt-stage (first (r s) (dependent (H s))) 6 (s .k + s .l))))))
 
-answer-refusal {ℓ} : {C : Type ℓ} {t : Told} {values given : List ℕ} {number : ℕ} → t ≡ answer values → t ≡ refusal number given → C
-answer-refusal p q = let z : _≡_ {A = ℕ} 0 1 = cc in absurd (omega arith)
-
--- an admitted sheet passes to what comes next
-pub admitted-next : (s : Sheet) → Admitted s → (next : Told) → judged s next ≡ next
-admitted-next s ok = go (judged-stage s)
-  where
-    go : Stage (judged s) → (next : Told) → judged s next ≡ next
-    go (passes p) = p
-    go (refuses number given p) = answer-refusal ok (p (answer []))
-
 -- a refusal of the sheet is every call's
-pub refused-next : (s : Sheet) {number : ℕ} {given : List ℕ} → judged s (answer []) ≡ refusal number given → (next : Told) → judged s next ≡ refusal number given
+pub refused-next : (s : Sheet) {number : ℕ} {given : List ℕ} → admits s ≡ refusal number given → (next : Told) → judged s next ≡ refusal number given
 refused-next s {number} {given} e = go (judged-stage s)
   where
     go : Stage (judged s) → (next : Told) → judged s next ≡ refusal number given
-    go (passes p) = answer-refusal (p (answer [])) e
-    go (refuses m g p) = λ next. p next ∙ sym (p (answer [])) ∙ e
+    go (passes p) next = let z : _≡_ {A = ℕ} 0 1 = cc (p (answer [])) in absurd (omega arith)
+    go (refuses m g p) next = p next ∙ sym (p (answer [])) ∙ e
+
+-- "Every call answers as if it checked the sheet afresh": what rules 1 to 6 tell, every call tells alike
+pub sheet-told : (s : Sheet) (next : Told) → 6 < rank next → (number : ℕ) (given : List ℕ) → number ≤ 6
+    → (judged s next ≡ refusal number given) ↔ (admits s ≡ refusal number given)
+sheet-told s next late number given h = (go (judged-stage s), λ e. refused-next s e next)
+  where
+    go : Stage (judged s) → judged s next ≡ refusal number given → admits s ≡ refusal number given
+    go (passes p) e = absurd (omega (arith, ap rank (sym (p next) ∙ e)))
+    go (refuses m g p) e = p (answer []) ∙ sym (p next) ∙ e
 
 -- every reason tells a refusal
 pub refused-is : (why : Refusal) → (number : ℕ) × (given : List ℕ) × (refused why ≡ refusal number given)
@@ -91,48 +146,14 @@ refused-is (NoCodeword tried) = (12, tried ∷ [], refl)
 pub refused-call : (s : Sheet) (why : Refusal) → refused why ≡ admits s → (next : Told) → refused why ≡ judged s next
 refused-call s why e next = let q = refused-is why in q .2 ∙ sym (refused-next s (sym e ∙ q .2) next)
 
--- ---- an admitted sheet passes each rule
-
-unless-passed : (test : Bool) (number : ℕ) (next : Told) → unless test number next ≡ answer [] → (test ≡ true) × (next ≡ answer [])
-unless-passed true number next e = (refl, e)
-unless-passed false number next e = answer-refusal e refl
-
-unlessAt-passed : (place : First) (number base : ℕ) (next : Told) → unlessAt place number base next ≡ answer []
-    → (place ≡ nowhere) × (next ≡ answer [])
-unlessAt-passed nowhere number base next e = (refl, e)
-unlessAt-passed (at i) number base next e = answer-refusal e refl
-
-pub record Passed (s : Sheet) : Type 0 where
-  pub shape : shaped s ≡ true
-  pub strays : first (length (s .rows)) (stray s) ≡ nowhere
-  pub codes : first (s .k + s .l) (offCode s) ≡ nowhere
-  pub messages : first (s .k + s .l) (offMessage s) ≡ nowhere
-  pub sums-G0 : first (s .l) (dependent (G0 s)) ≡ nowhere
-  pub sums-H : first (r s) (dependent (H s)) ≡ nowhere
-
-pub passed : (s : Sheet) → Admitted s → Passed s
-unfolding judged
-passed s ok =
-    let a = unless-passed (shaped s) 1 _ ok in
-    let b = unlessAt-passed (first (length (s .rows)) (stray s)) 2 0 _ (a .1) in
-    let c = unlessAt-passed (first (s .k + s .l) (offCode s)) 3 0 _ (b .1) in
-    let d = unlessAt-passed (first (s .k + s .l) (offMessage s)) 4 0 _ (c .1) in
-    let e = unlessAt-passed (first (s .l) (dependent (G0 s))) 5 (s .k) _ (d .1) in
-    let f = unlessAt-passed (first (r s) (dependent (H s))) 6 (s .k + s .l) _ (e .1) in
-    record { shape = a .0; strays = b .0; codes = c .0; messages = d .0; sums-G0 = e .0; sums-H = f .0 }
-
 -- ---- and so it is sound
-
-and-true : (a b : Bool) → (a && b) ≡ true → (a ≡ true) × (b ≡ true)
-and-true true b e = (refl, e)
-and-true false b e = absurd (true≢false (sym e))
 
 pub shaped-facts : (s : Sheet) → shaped s ≡ true → Shaped s
 shaped-facts s e =
-    let p = and-true (leb 1 (s .n) && leb (s .n) width && leb 1 (s .k) && leb (s .k + s .l) (s .n)) (eqb (length (s .rows)) (s .n + s .k)) e in
-    let q = and-true (leb 1 (s .n) && leb (s .n) width && leb 1 (s .k)) (leb (s .k + s .l) (s .n)) (p .0) in
-    let t = and-true (leb 1 (s .n) && leb (s .n) width) (leb 1 (s .k)) (q .0) in
-    let u = and-true (leb 1 (s .n)) (leb (s .n) width) (t .0) in
+    let p = and-eq-true-iff (leb 1 (s .n) && leb (s .n) width && leb 1 (s .k) && leb (s .k + s .l) (s .n)) (eqb (length (s .rows)) (s .n + s .k)) .0 e in
+    let q = and-eq-true-iff (leb 1 (s .n) && leb (s .n) width && leb 1 (s .k)) (leb (s .k + s .l) (s .n)) .0 (p .0) in
+    let t = and-eq-true-iff (leb 1 (s .n) && leb (s .n) width) (leb 1 (s .k)) .0 (q .0) in
+    let u = and-eq-true-iff (leb 1 (s .n)) (leb (s .n) width) .0 (t .0) in
     record {
       some-cells = leb-true 1 (s .n) (u .0);
       few-cells = leb-true (s .n) width (u .1);

@@ -1,13 +1,14 @@
 -- The cells that break rules 8 and 10, told by the words that the code makes of them. Assumes nothing.
 use mathlib.Core.Path.{_≡_, refl, sym, ap, _∙_}
-use mathlib.Core.Bool.{Bool, true, false, cond, _&&_, _||_, true≢false}
+use mathlib.Core.Bool.{Bool, true, false, cond, _&&_, _||_, true≢false, or-true, and-false, and-eq-true-iff}
+use mathlib.Core.Logic.{_⊎_, inl, inr, _↔_}
 use mathlib.Core.List.{[]}
 use Prim.Native.Nat.{ℕ, zero, suc, _+_, _%_, _^_, _≤_, _<_, min, max}
 use native.Mathlib.Decide.{ℕ-discrete}
 use native.Mathlib.Nat.{lt-of-le-of-lt}
 use native.Mathlib.Omega.{arith}
-use borrow.Author.Tests.{eq-eqb, ne-eqb, leb-true}
-use lib.Bits.{bitAnd, bitOr, and-comm, and-le-l}
+use borrow.Author.Tests.{eq-eqb, ne-eqb, leb-true, le-leb}
+use lib.Bits.{bitAnd, bitOr, and-le-l}
 use lib.Dec.{eqb, leb}
 use Rattle.paper.specs.First.{nowhere, first}
 use Rattle.paper.specs.Refusals.{Told, refusal, unless}
@@ -15,8 +16,8 @@ use Rattle.paper.specs.Words.{cell, _⊕_}
 use Rattle.paper.specs.Writing.{misplaced}
 use Rattle.paper.specs.Reading.{strayCell}
 use Rattle.paper.specs.Plate.{capped}
-use Rattle.words.proofs.Cells.{cell-and, cell-or, cell-lt, ext}
-use Rattle.words.proofs.Sums.{⊕-cancel, and-⊕, cell-⊕, cell-strays}
+use Rattle.words.proofs.Cells.{cell-and, cell-or, cell-lt, cell-cases, ext}
+use Rattle.words.proofs.Sums.{cell-⊕, cell-strays, on-mask}
 use Rattle.words.proofs.Firsts.{first-all}
 
 -- rule 8, cell by cell
@@ -49,19 +50,28 @@ stray-cell n y i = rw (cell-strays y n i) (go (leb n i))
     go true = refl
     go false = refl
 
+-- what rule 8 asks of one cell
+pub placed-cell : (n stuck levels i : ℕ) → (misplaced n stuck levels i ≡ false) ↔ ((n ≤ i → cell stuck i ≡ 0) × (cell levels i ≤ cell stuck i))
+placed-cell n stuck levels i = (λ e. to e (cell-cases stuck i) (cell-cases levels i), λ h. from h (leb n i) refl (cell-cases stuck i) (cell-cases levels i))
+  where
+    to : misplaced n stuck levels i ≡ false → (cell stuck i ≡ 0) ⊎ (cell stuck i ≡ 1) → (cell levels i ≡ 0) ⊎ (cell levels i ≡ 1)
+        → (n ≤ i → cell stuck i ≡ 0) × (cell levels i ≤ cell stuck i)
+    to e (inl p) (inl q) = (λ l. p, omega arith)
+    to e (inl p) (inr q) = absurd (true≢false (sym (rw (p, q, or-true)) ∙ e))
+    to e (inr p) q = (λ l. absurd (true≢false (sym (rw (le-leb n i l, p)) ∙ e)), omega (arith, cell-lt levels i))
+
+    from : (n ≤ i → cell stuck i ≡ 0) × (cell levels i ≤ cell stuck i) → (b : Bool) → leb n i ≡ b
+        → (cell stuck i ≡ 0) ⊎ (cell stuck i ≡ 1) → (cell levels i ≡ 0) ⊎ (cell levels i ≡ 1) → misplaced n stuck levels i ≡ false
+    from h b e (inl p) (inl q) = rw (p, q, and-false)
+    from h b e (inl p) (inr q) = absurd (omega (arith, h .1))
+    from h true e (inr p) q = absurd (omega (arith, h .0 (leb-true n i e)))
+    from h false e (inr p) q = rw (e, p, and-false)
+
 -- where rule 8 holds, the levels are at stuck cells
 pub levels-inside : (w n stuck levels : ℕ) → levels < 2 ^ w → first w (misplaced n stuck levels) ≡ nowhere → bitAnd levels stuck ≡ levels
 levels-inside w n stuck levels h e =
     ext w (lt-of-le-of-lt (and-le-l levels stuck) h) h
-    (λ i l. cell-and levels stuck i
-    ∙ go (leb n i) (cell stuck i) (cell levels i) (cell-lt stuck i) (cell-lt levels i) (first-all _ w i e l))
-  where
-    go : (high : Bool) (s l : ℕ) → s < 2 → l < 2 → ((high && (eqb s 1 || eqb l 1)) || (eqb l 1 && eqb s 0)) ≡ false → min l s ≡ l
-    go high s zero p q f = omega arith
-    go true zero (suc zero) p q f = absurd (true≢false f)
-    go false zero (suc zero) p q f = absurd (true≢false f)
-    go high (suc s) (suc l) p q f = omega arith
-    go high zero (suc (suc l)) p q f = absurd (omega arith)
+    (λ i l. cell-and levels stuck i ∙ omega (arith, placed-cell n stuck levels i .0 (first-all _ w i e l) .1))
 
 eqb-same : (x y u v : ℕ) → (x ≡ y → u ≡ v) → (u ≡ v → x ≡ y) → eqb x y ≡ eqb u v
 eqb-same x y u v f g = go (ℕ-discrete x y)
@@ -70,16 +80,10 @@ eqb-same x y u v f g = go (ℕ-discrete x y)
     go (yes e) = eq-eqb x y e ∙ sym (eq-eqb u v (f e))
     go (no n) = ne-eqb x y n ∙ sym (ne-eqb u v (λ e. n (g e)))
 
--- the word of d fits if dG0 has at the stuck cells what wG1 and the levels differ in
+-- the test of the elimination is the test of the definition
 pub fits-test : (base g stuck levels : ℕ) → bitAnd levels stuck ≡ levels
     → eqb (bitAnd g stuck) (bitAnd (base ⊕ levels) stuck) ≡ eqb (bitAnd (base ⊕ g) stuck) levels
-fits-test base g stuck levels h =
-    eqb-same (bitAnd g stuck) (bitAnd (base ⊕ levels) stuck) (bitAnd (base ⊕ g) stuck) levels
-    (λ e. split g ∙ ap (λ (x : ℕ). bitAnd base stuck ⊕ x) (e ∙ split levels ∙ ap (λ (x : ℕ). bitAnd base stuck ⊕ x) h) ∙ ⊕-cancel (bitAnd base stuck) levels)
-    (λ e. sym (⊕-cancel (bitAnd base stuck) (bitAnd g stuck)) ∙ ap (λ (x : ℕ). bitAnd base stuck ⊕ x) (sym (split g) ∙ e ∙ sym h) ∙ sym (split levels))
-  where
-    split : (x : ℕ) → bitAnd (base ⊕ x) stuck ≡ bitAnd base stuck ⊕ bitAnd x stuck
-    split x = and-comm (base ⊕ x) stuck ∙ and-⊕ stuck base x ∙ rw (and-comm stuck base, and-comm stuck x)
+fits-test base g stuck levels h = let i = on-mask base g levels stuck h in eqb-same _ _ _ _ (i .1) (i .0)
 
 -- a rule that is told by a test
 pub unless-stop : (number : ℕ) (next : Told) {test : Bool} → test ≡ false → refusal number [] ≡ unless test number next
@@ -88,10 +92,9 @@ unless-stop number next e = ap (λ (b : Bool). unless b number next) (sym e)
 pub unless-pass : (number : ℕ) (next : Told) {test : Bool} {told : Told} → test ≡ true → told ≡ next → told ≡ unless test number next
 unless-pass number next e q = q ∙ ap (λ (b : Bool). unless b number next) (sym e)
 
--- a cap that is allowed is at most 8
-pub capped-below : (cap : ℕ) → capped cap ≡ true → cap ≤ 8
-capped-below cap e = leb-true cap 8 (go (leb 1 cap) e)
-  where
-    go : (low : Bool) → (low && leb cap 8) ≡ true → leb cap 8 ≡ true
-    go true q = q
-    go false q = absurd (true≢false (sym q))
+-- 11: "a cap of 1 to 8"
+pub capped-true : (cap : ℕ) → (capped cap ≡ true) ↔ ((1 ≤ cap) × (cap ≤ 8))
+capped-true cap = (
+  λ e. let b = and-eq-true-iff (leb 1 cap) (leb cap 8) .0 e in (leb-true 1 cap (b .0), leb-true cap 8 (b .1)),
+  λ h. rw (le-leb 1 cap (h .0), le-leb cap 8 (h .1)),
+)

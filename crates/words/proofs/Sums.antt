@@ -1,7 +1,7 @@
 -- The sum of two words: a group, cell by cell and within the same cells; and the weight of a sum. Assumes nothing.
 use mathlib.Core.Path.{_≡_, refl, sym, ap, ap₂, _∙_, subst}
 use mathlib.Core.Bool.{cond}
-use mathlib.Core.Logic.{_⊎_, inl, inr, _≢_, ⊎-elim}
+use mathlib.Core.Logic.{_⊎_, inl, inr, _↔_, ⊎-elim}
 use Prim.Native.Nat.{ℕ, zero, suc, _+_, _-_, _*_, _/_, _%_, _^_, _≤_, _<_, min}
 use native.Mathlib.Nat.{zero-lt-suc, mod-lt, pow-suc, zero-mul, one-mul, add-zero, le-refl, eq-zero-or-pos}
 use native.Mathlib.Numerals.{add-one}
@@ -11,7 +11,7 @@ use borrow.Author.Tests.{le-leb, lt-leb}
 use lib.Dec.{leb}
 use lib.Arith.{bin-ind}
 use lib.Pow.{pow-pos}
-use lib.Bits.{bitAnd, bitXor, xor-add-and, xor-shr, xor-comm, xor-self, xor-zero-r, xor-lt, xor-mod, xor-block, xor-shifted}
+use lib.Bits.{bitAnd, bitXor, and-comm, xor-add-and, xor-shr, xor-comm, xor-self, xor-zero-r, xor-lt, xor-mod, xor-block, xor-shifted}
 use lib.Count.{ones, ones-step, ones-cat}
 use Rattle.paper.specs.Words.{cell, _⊕_}
 use Rattle.words.proofs.Cells.{by-half, parity, by-parity, and-half, and-odd, cell-and, cell-lt, cell-low, cell-low-above, ext-all}
@@ -126,6 +126,19 @@ and-⊕ m a b =
     both (suc x) zero z h l m = omega arith
     both (suc x) (suc y) zero h l m = omega arith
     both (suc x) (suc y) (suc z) h l m = omega arith
+
+-- a sum has the levels at the cells of a mask exactly if one of its words has there what the other and the levels differ in
+pub on-mask : (a b levels m : ℕ) → bitAnd levels m ≡ levels → (bitAnd (a ⊕ b) m ≡ levels) ↔ (bitAnd b m ≡ bitAnd (a ⊕ levels) m)
+on-mask a b levels m h = (λ e. move (bitAnd a m) _ _ (sym (split a b) ∙ e) ∙ sym target, λ e. split a b ∙ sym (move _ _ _ (sym (e ∙ target))))
+  where
+    split : (x y : ℕ) → bitAnd (x ⊕ y) m ≡ bitAnd x m ⊕ bitAnd y m
+    split x y = rw (and-comm (x ⊕ y) m, and-comm x m, and-comm y m) (and-⊕ m x y)
+
+    target : bitAnd (a ⊕ levels) m ≡ bitAnd a m ⊕ levels
+    target = split a levels ∙ ap (λ (x : ℕ). bitAnd a m ⊕ x) h
+
+    move : (x y v : ℕ) → x ⊕ y ≡ v → y ≡ x ⊕ v
+    move x y v e = sym (⊕-cancel x y) ∙ ap (λ (z : ℕ). x ⊕ z) e
 
 -- ---- a word taken once or not at all: d % 2 * g
 

@@ -1,14 +1,12 @@
 -- `measure_admitted_d0` meets its contract: rule 11, then the distance or "more than the cap".
 use mathlib.Core.Path.{_≡_, sym, ap, _∙_}
-use mathlib.Core.Bool.{true}
 use borrow.Author.Needs.{needs}
 use borrow.Author.Tests.{not-true, not-false}
-use native.Mathlib.Omega.{arith}
 use lib.Count.{ones}
 use Rattle.paper.specs.Plate.{plateD0}
 use Rattle.listing.specs.Searches.{searched}
 use Rattle.store.specs.Steps.{measuresAdmittedD0}
-use Rattle.store.proofs.Breaches.{capped-below, unless-stop, unless-pass}
+use Rattle.store.proofs.Breaches.{capped-true, unless-stop, unless-pass}
 use Rattle.store.proofs.measuring.measure_admitted_d0.Statement.{statement}
 use Rattle.store.proofs.measuring.measure_admitted_d0.Tie as tie
 
@@ -18,7 +16,7 @@ returns c = unless-stop 11 _ (sym (c .before .is-cap .ensures) ∙ not-true (c .
 
 find-requires : tie.Need-find-masked-requires
 find-requires c κs =
-    (c .before .before .before .pre, capped-below _ (sym (c .before .is-cap .ensures) ∙ not-false (c .before .is-cap .result) (c .if1 .left)))
+    (c .before .before .before .pre, capped-true _ .0 (sym (c .before .is-cap .ensures) ∙ not-false (c .before .is-cap .result) (c .if1 .left)) .1)
 
 returns-2 : tie.Need-returns-2
 unfolding measuresAdmittedD0 ones
