@@ -4,13 +4,13 @@
 use mathlib.Core.Path.{_≡_, refl, sym, ap, ap₂, _∙_, subst}
 use mathlib.Core.Logic.{_⊎_, inl, inr}
 use mathlib.Core.List.{List, [], _∷_, map}
-use Prim.Native.Nat.{ℕ, zero, suc, _+_, _-_, _*_, _/_, _%_, _^_, _≤_, _<_}
+use Prim.Native.Nat.{ℕ, _+_, _-_, _%_, _^_, _<_}
 use native.Mathlib.Nat.{lt-of-le-of-lt}
 use native.Mathlib.Decide.{ℕ-discrete}
 use native.Mathlib.Omega.{arith}
 use lib.Bits.{bitAnd, and-comm, and-le-l, and-zero-r}
 use lib.ListN.{length}
-use Rattle.paper.specs.Words.{product, products, sum, _⊕_}
+use Rattle.paper.specs.Words.{product, sum, _⊕_}
 use Rattle.words.proofs.Cells.{and-and, lt-pow}
 use Rattle.words.proofs.Sums.{⊕-cancel, ⊕-lt, and-⊕}
 use Rattle.words.proofs.Products.{product-lt, product-cases, product-comm, product-⊕, ⊕-product, product-some, product-mask}

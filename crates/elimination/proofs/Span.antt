@@ -7,17 +7,17 @@ use mathlib.Core.Path.{_≡_, refl, sym, ap, ap₂, _∙_, subst}
 use mathlib.Core.Logic.{_⊎_, inl, inr, ⊎-elim}
 use mathlib.Core.Bool.{false, true≢false}
 use mathlib.Core.List.{List, [], _∷_, _++_}
-use Prim.Native.Nat.{ℕ, zero, suc, _+_, _-_, _*_, _/_, _%_, _^_, _≤_, _<_}
-use native.Mathlib.Nat.{zero-lt-suc, pow-suc, eq-zero-or-pos, mod-lt}
+use Prim.Native.Nat.{ℕ, suc, _+_, _-_, _*_, _/_, _%_, _^_, _≤_, _<_}
+use native.Mathlib.Nat.{zero-lt-suc, pow-suc, eq-zero-or-pos}
 use native.Mathlib.Decide.{ℕ-discrete, decLt}
 use native.Mathlib.Omega.{arith}
 use borrow.Author.Tests.{eq-eqb}
-use lib.ListN.{length, getD, take, length-take}
+use lib.ListN.{length, getD, take}
 use lib.Pow.{pow-pos, pow-mono}
 use Rattle.paper.specs.Words.{product, products, sum, _⊕_}
 use Rattle.paper.specs.Sheet.{dependent}
 use Rattle.words.proofs.Cells.{by-half, parity, top}
-use Rattle.words.proofs.Sums.{sums, ⊕-assoc, ⊕-comm, ⊕-left-comm, ⊕-cancel, ⊕-self, ⊕-zero-l, ⊕-zero-r, ⊕-zero-eq, ⊕-lt}
+use Rattle.words.proofs.Sums.{sums, ⊕-assoc, ⊕-left-comm, ⊕-cancel, ⊕-self, ⊕-zero-l, ⊕-zero-eq, ⊕-lt}
 use Rattle.words.proofs.Products.{product-comm, product-⊕, product-zero-l, product-zero-r, products-nil, products-half, products-odd}
 use Rattle.words.proofs.Rows.{sum-nil, sum-even, sum-odd, sum-⊕, sum-take, sum-top}
 use Rattle.words.proofs.Firsts.{any-some}

@@ -1,10 +1,9 @@
 -- The plate: the two distances, and how they are measured.
 use mathlib.Core.Path.{_≡_}
 use mathlib.Core.Bool.{Bool, not, _&&_}
-use mathlib.Core.List.{List, [], _∷_}
+use mathlib.Core.List.{[], _∷_}
 use Prim.Native.Nat.{ℕ, _/_, _^_, _≤_, _<_}
 use lib.Dec.{eqb, leb}
-use lib.Count.{ones}
 use Rattle.paper.specs.Words.{weight, products}
 use Rattle.paper.specs.Listing.{Search, found, missed, weights, search}
 use Rattle.paper.specs.Refusals.{Told, answer, more, unless}

@@ -1,15 +1,15 @@
 -- What the calls answer on an admitted sheet when the arguments are good, and what an answer says of the arguments.
 -- Every other theorem of the calls starts from these. Assumes nothing.
 use mathlib.Core.Path.{_≡_, refl, sym, ap, _∙_}
-use mathlib.Core.Bool.{Bool, true, false, _&&_, true≢false, or-true, and-false}
+use mathlib.Core.Bool.{Bool, true, false, true≢false}
 use mathlib.Core.Logic.{_⊎_, inl, inr, _↔_, Iff·rfl}
 use Prim.Native.Nat.{ℕ, _%_, _^_, _≤_, _<_}
 use native.Mathlib.Nat.{mod-lt, mod-le, lt-of-le-of-lt}
 use native.Mathlib.Decide.{decLt}
 use native.Mathlib.Omega.{arith}
 use borrow.Author.Tests.{ltb-true, lt-ltb, leb-true, le-leb}
-use lib.Bits.{bitAnd, and-lt}
-use lib.Dec.{eqb, leb, ltb}
+use lib.Bits.{bitAnd}
+use lib.Dec.{leb, ltb}
 use lib.Pow.{pow-pos}
 use Rattle.paper.specs.First.{First, nowhere, at, first}
 use Rattle.paper.specs.Words.{width, cell}
@@ -19,7 +19,7 @@ use Rattle.paper.specs.Sheet.{Sheet, Admitted}
 use Rattle.paper.specs.Writing.{wordOf, fits, misplaced, chosen, writes}
 use Rattle.paper.specs.Reading.{strayCell, nearest, heard, reads}
 use Rattle.paper.specs.Plate.{searchD0, searchD1, plateD0, plateD1, capped, measuresD0, measuresD1}
-use Rattle.words.proofs.Cells.{cell-cases, cell-and, cell-above, cell-low, cell-low-above, cell-lt, ext}
+use Rattle.words.proofs.Cells.{cell-cases, cell-and, cell-above, cell-low, cell-low-above, ext}
 use Rattle.words.proofs.Firsts.{none-below, first-all}
 use Rattle.sheet.proofs.Rules.{rank, past, past-at}
 use Rattle.sheet.proofs.Verdicts.{past-judged}

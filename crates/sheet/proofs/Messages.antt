@@ -1,20 +1,20 @@
 -- The words of message w are exactly the 2^l sums wG1 + dG0, each from one d. Assumes nothing.
 -- A word with message 0 that is no sum of G0 would make, with G0, one row too many beside M and H: exchange forbids it.
-use mathlib.Core.Path.{_≡_, refl, sym, ap, ap₂, _∙_, subst}
-use mathlib.Core.Logic.{_⊎_, inl, inr, _↔_}
+use mathlib.Core.Path.{_≡_, sym, ap, ap₂, _∙_, subst}
+use mathlib.Core.Logic.{inl, inr, _↔_}
 use mathlib.Core.List.{List, [], _∷_, _++_}
-use Prim.Native.Nat.{ℕ, zero, suc, _+_, _-_, _*_, _/_, _%_, _^_, _≤_, _<_}
-use native.Mathlib.Nat.{zero-lt-suc, pow-suc, mod-lt, div-add-mod', add-comm, zero-mul}
+use Prim.Native.Nat.{ℕ, _+_, _-_, _*_, _/_, _%_, _^_, _<_}
+use native.Mathlib.Nat.{mod-lt, div-add-mod', add-comm, zero-mul}
 use native.Mathlib.Omega.{arith}
 use lib.ListN.{length, getD, length-append}
-use lib.Pow.{pow-pos, pow-add, shr-lt, shr-shr, pow-lt}
+use lib.Pow.{pow-pos, shr-lt, pow-lt}
 use Rattle.paper.specs.Words.{cell, product, products, sum, _⊕_}
-use Rattle.paper.specs.Sheet.{Sheet, r, G1, G0, H, M, Codeword, WordOf}
+use Rattle.paper.specs.Sheet.{Sheet, r, G1, G0, H, M, WordOf}
 use Rattle.paper.specs.Writing.{wordOf}
 use Rattle.words.proofs.Cells.{ext, cell-unit-swap}
-use Rattle.words.proofs.Sums.{sums, ⊕-assoc, ⊕-comm, ⊕-left-comm, ⊕-cancel, ⊕-self, ⊕-zero-l, ⊕-zero-r, ⊕-zero-eq, ⊕-lt}
+use Rattle.words.proofs.Sums.{⊕-cancel, ⊕-self, ⊕-zero-l, ⊕-zero-r, ⊕-lt}
 use Rattle.words.proofs.Products.{product-comm, product-unit, cell-products, products-lt, products-⊕, products-zero}
-use Rattle.words.proofs.Rows.{sum-nil, sum-even, sum-odd, sum-zero, sum-append, sum-mod, product-sum}
+use Rattle.words.proofs.Rows.{sum-zero, sum-append, sum-mod, product-sum}
 use Rattle.elimination.proofs.Span.{All, All-map, All-append, Low, Perp, Span, Indep, Cross, span-dec, span-lt, sum-span, span-sum, cross-flip, products-of-perp, perp-of-products, indep-of-zero, free-zero, free-once, free-indep}
 use Rattle.elimination.proofs.Exchange.{exchange}
 use Rattle.sheet.specs.Sound.{Sound}

@@ -1,18 +1,17 @@
 -- What the verdict on a sheet says: a refused sheet is refused by every call alike, and an admitted one is sound. Assumes nothing.
-use mathlib.Core.Path.{_≡_, refl, sym, ap, ap₂, _∙_, subst}
+use mathlib.Core.Path.{_≡_, refl, sym, ap, _∙_, subst}
 use mathlib.Core.Bool.{Bool, true, false, cond, not, _&&_, true≢false, and-eq-true-iff}
 use mathlib.Core.Logic.{_↔_, Iff·rfl}
-use mathlib.Core.List.{List, [], _∷_, _++_}
-use Prim.Native.Nat.{ℕ, zero, suc, _+_, _-_, _^_, _≤_, _<_}
+use mathlib.Core.List.{List, [], _∷_}
+use Prim.Native.Nat.{ℕ, suc, _+_, _-_, _^_, _≤_, _<_}
 use native.Mathlib.Decide.{ℕ-discrete}
-use native.Mathlib.Nat.{add-sub-cancel-left}
 use native.Mathlib.Omega.{arith}
-use borrow.Author.Tests.{leb-true, leb-false, eqb-true, eqb-false, eq-eqb, ne-eqb}
+use borrow.Author.Tests.{leb-true, leb-false, eqb-true, eq-eqb, ne-eqb}
 use lib.Dec.{leb, eqb}
 use lib.ListN.{length, getD, take, drop, length-take, length-drop}
 use lib.Pow.{pow-lt}
-use lib.Seq.{getD-take, getD-drop, take-add}
-use Rattle.paper.specs.First.{First, nowhere, at, first, any}
+use lib.Seq.{getD-take, getD-drop}
+use Rattle.paper.specs.First.{First, nowhere, at, first}
 use Rattle.paper.specs.Words.{width, cell, product, products}
 use Rattle.paper.specs.Refusals.{Told, answer, refusal, refused, unless, unlessAt}
 use Rattle.paper.specs.Sheet.{Sheet, r, G1, G0, H, M, G, shaped, stray, wanted, off, offCode, offMessage, dependent, judged, admits, Admitted}
@@ -21,7 +20,7 @@ use Rattle.paper.specs.declared.Refusal.the-variants.{Shape, Stray, OffCode, Of
 use Rattle.words.proofs.Cells.{ext, no-cell, cell-unit, cell-unit-other}
 use Rattle.words.proofs.Products.{product-comm, cell-products, products-lt}
 use Rattle.words.proofs.Firsts.{first-all, any-all}
-use Rattle.elimination.proofs.Span.{All, Low, Free}
+use Rattle.elimination.proofs.Span.{All, Low}
 use Rattle.sheet.specs.Sound.{Shaped, Sound}
 use Rattle.sheet.proofs.Rules.{rank, past, past-at}
 

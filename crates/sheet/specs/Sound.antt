@@ -1,6 +1,5 @@
 -- What an admitted sheet is, as facts that its verdict gives: the calls' inner functions and the theorems start from these.
 use mathlib.Core.Path.{_≡_}
-use mathlib.Core.List.{List}
 use Prim.Native.Nat.{ℕ, _+_, _^_, _≤_, _<_}
 use lib.ListN.{length, getD}
 use Rattle.paper.specs.Words.{width, products}

@@ -2,7 +2,7 @@
 ghost use mathlib.Core.Path.{_≡_};
 ghost use Prim.Native.Nat.{_≤_};
 ghost use Rattle.paper.specs.Refusals.{reading};
-ghost use Rattle.paper.specs.Reading.{nearest, heard};
+ghost use Rattle.paper.specs.Reading.{nearest};
 ghost use Rattle.paper.specs.Sheet.{sheet};
 ghost use Rattle.listing.specs.Searches.{searched};
 ghost use Rattle.sheet.specs.Sound.{Sound};

@@ -1,17 +1,17 @@
 -- The product of two words and the products with rows: additive, symmetric, and what a single cell tells. Assumes nothing.
 use mathlib.Core.Path.{_≡_, refl, sym, ap, ap₂, _∙_}
-use mathlib.Core.Logic.{_⊎_, inl, inr, _≢_}
+use mathlib.Core.Logic.{_⊎_, _≢_}
 use mathlib.Core.List.{List, [], _∷_}
 use Prim.Native.Nat.{ℕ, zero, suc, _+_, _-_, _*_, _/_, _%_, _^_, _≤_, _<_, min}
 use native.Mathlib.Nat.{zero-lt-suc, mod-lt, mod-eq-of-lt, pow-suc, lt-of-lt-of-le, lt-of-le-of-lt}
 use native.Mathlib.Omega.{arith}
 use lib.ListN.{length, getD, drop, length-drop, drop-of-length-le}
 use lib.Seq.{drop-cons}
-use lib.Pow.{pow-pos, pow-mono}
+use lib.Pow.{pow-mono}
 use lib.Bits.{bitAnd, and-comm, and-mod, and-le-l}
 use lib.Count.{ones, ones-step}
 use Rattle.paper.specs.Words.{cell, product, products, _⊕_}
-use Rattle.words.proofs.Cells.{and-half, and-odd, and-assoc, parity, by-half, cell-suc, cell-0, cell-of-0, ext, no-cell, top, top-one}
+use Rattle.words.proofs.Cells.{and-half, and-odd, and-assoc, parity, by-half, cell-suc, cell-0, cell-of-0, top, top-one}
 use Rattle.words.proofs.Sums.{⊕-half, ⊕-odd, ⊕-zero-l, ⊕-self, and-⊕, ones-zero, ones-⊕-and}
 
 -- ---- the product

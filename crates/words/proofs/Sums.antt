@@ -3,7 +3,7 @@ use mathlib.Core.Path.{_≡_, refl, sym, ap, ap₂, _∙_, subst}
 use mathlib.Core.Bool.{cond}
 use mathlib.Core.Logic.{_⊎_, inl, inr, _↔_, ⊎-elim}
 use Prim.Native.Nat.{ℕ, zero, suc, _+_, _-_, _*_, _/_, _%_, _^_, _≤_, _<_, min}
-use native.Mathlib.Nat.{zero-lt-suc, mod-lt, pow-suc, zero-mul, one-mul, add-zero, le-refl, eq-zero-or-pos}
+use native.Mathlib.Nat.{zero-lt-suc, pow-suc, zero-mul, one-mul, add-zero, le-refl, eq-zero-or-pos}
 use native.Mathlib.Numerals.{add-one}
 use native.Mathlib.Decide.{decLt}
 use native.Mathlib.Omega.{arith}
@@ -11,7 +11,7 @@ use borrow.Author.Tests.{le-leb, lt-leb}
 use lib.Dec.{leb}
 use lib.Arith.{bin-ind}
 use lib.Pow.{pow-pos}
-use lib.Bits.{bitAnd, bitXor, and-comm, xor-add-and, xor-shr, xor-comm, xor-self, xor-zero-r, xor-lt, xor-mod, xor-block, xor-shifted}
+use lib.Bits.{bitAnd, and-comm, xor-add-and, xor-shr, xor-comm, xor-self, xor-zero-r, xor-lt, xor-mod, xor-block, xor-shifted}
 use lib.Count.{ones, ones-step, ones-cat}
 use Rattle.paper.specs.Words.{cell, _⊕_}
 use Rattle.words.proofs.Cells.{by-half, parity, by-parity, and-half, and-odd, cell-and, cell-lt, cell-low, cell-low-above, ext-all}

@@ -1,14 +1,14 @@
 -- `judge_rows` meets its contract: what each rule finds is what the definition finds, and the first to find decides.
-use mathlib.Core.Path.{_≡_, sym, ap, ap₂, _∙_}
+use mathlib.Core.Path.{_≡_, sym, ap, _∙_}
 use mathlib.Core.List.{List}
 use Prim.Native.Nat.{ℕ, _+_, _-_}
 use borrow.Author.Needs.{needs}
 use native.Mathlib.Omega.{arith}
 use lib.ListN.{length}
 use Rattle.paper.specs.First.{First, first}
-use Rattle.paper.specs.Sheet.{sheet, G, H, M, off, offCode, offMessage}
+use Rattle.paper.specs.Sheet.{sheet, M, off, offCode, offMessage}
 use Rattle.words.specs.Places.{placed}
-use Rattle.sheet.specs.Steps.{sums, rules}
+use Rattle.sheet.specs.Steps.{rules}
 use Rattle.sheet.proofs.Stops.{stop-first, pass, found-in}
 use Rattle.sheet.proofs.Verdicts.{part-length}
 use Rattle.sheet.proofs.judge_rows.Statement.{statement}

@@ -1,5 +1,5 @@
 -- `find_misplaced` meets its contract: the word that it makes has the cells that break the rule.
-use mathlib.Core.Path.{_≡_, ap, _∙_}
+use mathlib.Core.Path.{ap, _∙_}
 use borrow.Author.Needs.{needs}
 use Prim.Native.Nat.{ℕ}
 use lib.Bits.{bitAnd, bitOr}

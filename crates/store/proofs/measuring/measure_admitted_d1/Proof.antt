@@ -1,5 +1,5 @@
 -- `measure_admitted_d1` meets its contract: rule 11, then the distance or "more than the cap".
-use mathlib.Core.Path.{_≡_, sym, ap, _∙_}
+use mathlib.Core.Path.{sym, ap, _∙_}
 use borrow.Author.Needs.{needs}
 use borrow.Author.Tests.{not-true, not-false}
 use lib.Count.{ones}

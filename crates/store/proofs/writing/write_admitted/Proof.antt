@@ -1,14 +1,12 @@
 -- `write_admitted` meets its contract: rules 7 and 8 in their order, then the word.
-use mathlib.Core.Path.{_≡_, sym, ap, _∙_}
-use mathlib.Core.Bool.{Bool}
+use mathlib.Core.Path.{sym, ap, _∙_}
 use borrow.Author.Needs.{needs}
 use borrow.Author.Tests.{not-true, not-false}
 use native.Mathlib.Omega.{arith}
-use Rattle.paper.specs.Refusals.{unless}
 use Rattle.paper.specs.Words.{width}
 use Rattle.words.specs.Places.{placed}
 use Rattle.sheet.proofs.Stops.{stop-first, pass}
-use Rattle.store.specs.Steps.{writesAdmitted, writesPlaced}
+use Rattle.store.specs.Steps.{writesAdmitted}
 use Rattle.store.proofs.Breaches.{levels-inside, unless-stop, unless-pass}
 use Rattle.store.proofs.writing.write_admitted.Statement.{statement}
 use Rattle.store.proofs.writing.write_admitted.Tie as tie
