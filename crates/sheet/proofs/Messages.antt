@@ -114,10 +114,6 @@ module _ (s : Sheet) (ok : Sound s) where
         ∙ ap₂ _⊕_ (read-back w l) (clear-sum (M s) (G0 s) (ok .message-G0) d) ∙ ⊕-zero-r w;
   }
 
-  -- a word's message is below 2^k
-  pub message-lt : (w x : ℕ) → WordOf s w x → w < 2 ^ s .k
-  message-lt w x h = subst (λ (v : ℕ). v < 2 ^ s .k) (h .message) (subst (λ (m : ℕ). products (M s) x < 2 ^ m) (ok .count-M) (products-lt (M s) x))
-
   -- "these are exactly the 2^l sums wG1 + dG0"
   pub words-of : (w x : ℕ) → w < 2 ^ s .k → WordOf s w x ↔ ((d : ℕ) × (d < 2 ^ s .l) × (x ≡ wordOf s w d))
   words-of w x l = (to, from)
