@@ -14,6 +14,9 @@ ghost use Rattle.elimination.specs.Kept.{Within, Reduces, Keeps, masked}
 use words::Place;
 use words::cell_of;
 
+// Room for as many rows as a word has cells.
+const ROOM: usize = 32;
+
 // What is left of a word, and the choice of rows that was added on the way.
 struct Reduced {
     rest: u32,
@@ -22,12 +25,12 @@ struct Reduced {
 
 // The kept words, one for each row, and beside each the choice of rows whose sum it is.
 struct Kept {
-    words: [u32; 32],
-    choices: [u32; 32],
+    words: [u32; ROOM],
+    choices: [u32; ROOM],
 }
 
 // x with each of the first `count` kept words added in turn where that makes it smaller: where it has the word's highest cell.
-fn reduce(words: &[u32; 32], choices: &[u32; 32], count: usize, x: u32) -> Reduced
+fn reduce(words: &[u32; ROOM], choices: &[u32; ROOM], count: usize, x: u32) -> Reduced
     requires { ⌜ Within (now words) (now choices) count ⌝ }
     ensures { λ r. ⌜ Reduces (now (words .entry)) (now (choices .entry)) count x (r .rest) (r .choice) ⌝ }
 {
@@ -49,8 +52,8 @@ fn keep_rows(rows: &[u32], mask: u32) -> Kept
     ensures room { λ r. ⌜ Within (r .words) (r .choices) (length (now (rows .entry))) ⌝ }
     ensures kept { λ r. ⌜ Keeps (masked mask (now (rows .entry))) (r .words) (r .choices) (length (now (rows .entry))) ⌝ }
 {
-    let mut words = [0u32; 32];
-    let mut choices = [0u32; 32];
+    let mut words = [0u32; ROOM];
+    let mut choices = [0u32; ROOM];
     let mut j = 0;
     while j < rows.len() {
         let r = reduce(&words, &choices, j, rows[j] & mask);
@@ -62,7 +65,7 @@ fn keep_rows(rows: &[u32], mask: u32) -> Kept
 }
 
 // The first of the first `count` kept words that is 0.
-fn first_zero(words: &[u32; 32], count: usize) -> Place
+fn first_zero(words: &[u32; ROOM], count: usize) -> Place
     requires { ⌜ (count ≤ width) × (length (now words) ≡ width) ⌝ }
     ensures { λ r. ⌜ placed r ≡ first count (λ j. eqb (getD (now (words .entry)) j 0) 0) ⌝ }
 {

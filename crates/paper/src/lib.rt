@@ -1,4 +1,7 @@
-// The answers of the store, as values. What each one tells, in the numbers and values of document 01, stands in specs/Refusals.antt.
+// The answers of the store, as values, and the width of a word. What each one tells, in the numbers and values of document 01, stands in specs/Refusals.antt.
+
+// The number of cells that a word of the machine has: `width` of specs/Words.antt.
+pub const WIDTH: u32 = 32;
 
 // Why a call is refused: "the refusal carries its reason and the reason carries its row".
 pub enum Refusal {

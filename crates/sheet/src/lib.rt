@@ -13,6 +13,7 @@ ghost use Rattle.sheet.specs.Steps.{sums, rules};
 use elimination::first_dependent;
 use paper::Admission;
 use paper::Refusal;
+use paper::WIDTH;
 use words::Place;
 use words::is_low;
 use words::product_of;
@@ -34,7 +35,7 @@ fn is_shaped(n: u32, k: u32, l: u32, rows: &[u32]) -> bool
     if n < 1 {
         return false;
     }
-    if 32 < n {
+    if WIDTH < n {
         return false;
     }
     if k < 1 {

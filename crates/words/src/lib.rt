@@ -7,6 +7,7 @@ ghost use lib.ListN.{length};
 ghost use Rattle.paper.specs.First.{first};
 ghost use Rattle.paper.specs.Words.{width, cell, product, products, sum, _⊕_};
 ghost use Rattle.words.specs.Places.{placed};
+use paper::WIDTH;
 
 // The first number with a property, or that there is none.
 pub enum Place {
@@ -90,5 +91,5 @@ pub fn strays_of(n: u32, x: u32) -> u32
     requires { ⌜ n ≤ width ⌝ }
     ensures { λ r. ⌜ r ≡ x ⊕ x % 2 ^ n ⌝ }
 {
-    if n < 32 { x ^ (x % cell_of(n)) } else { 0 }
+    if n < WIDTH { x ^ (x % cell_of(n)) } else { 0 }
 }
