@@ -1,0 +1,79 @@
+-- `take_in` is safe and ends: each turn but the last takes a line off the piece. The rooms keep their lengths.
+use mathlib.Core.Path.{_≡_, refl, sym}
+use Prim.Native.Nat.{_-_, _*_, _≤_}
+use borrow.Author.Needs.{needs}
+use native.Mathlib.Omega.{arith}
+use lib.ListN.{length}
+use lib.Seq.{length-take-le}
+use Rattle.lines.specs.Answers.{roomAnswer}
+use Rattle.lines.proofs.Tokens.{end-within}
+use Rattle.console.proofs.take_in.Statement.{statement}
+use Rattle.console.proofs.take_in.Tie as tie
+
+abbrev Inv-loop : tie.InvT-loop
+Inv-loop input line₀ held numbers₀ out₀ from₀ held₀ at₀ line numbers out from held' at =
+    (from ≤ length input) × (held' ≤ length line) × (at ≤ roomAnswer * from) × (length line ≡ length line₀) × (length numbers ≡ length numbers₀)
+    × (length out ≡ length out₀)
+
+abbrev μ-loop : tie.MeasureT-loop
+μ-loop input line₀ held numbers₀ out₀ from₀ held₀ at₀ line numbers out from held' at = length input - from
+
+loop-holds : tie.Need-loop-holds Inv-loop μ-loop
+loop-holds c = (omega arith, omega arith, omega arith, refl, refl, refl)
+
+end-of-requires : tie.Need-end-of-requires Inv-loop μ-loop
+end-of-requires c κs = search needs
+
+sub-append : tie.Need-sub-append Inv-loop μ-loop
+sub-append c = omega arith
+
+part-append-start : tie.Need-part-append-start Inv-loop μ-loop
+part-append-start c = omega arith
+
+part-append-end : tie.Need-part-append-end Inv-loop μ-loop
+part-append-end c = end-within 10 (c .before .before .before .before .before .before .before .args .input .now) (c .before .before .loop .from) (c .before .end-of .result) (c .before .before .loop .inv .0) (c .before .end-of .ensures)
+
+append-requires : tie.Need-append-requires Inv-loop μ-loop
+append-requires c κs = omega arith
+
+same-length : tie.Need-same-length Inv-loop μ-loop
+same-length c = omega arith
+
+same-length-2 : tie.Need-same-length-2 Inv-loop μ-loop
+same-length-2 c = omega arith
+
+same-length-3 : tie.Need-same-length-3 Inv-loop μ-loop
+same-length-3 c = omega arith
+
+returns : tie.Need-returns Inv-loop μ-loop
+returns c = omega arith
+
+slice-reshare-prefix-answer : tie.Need-slice-reshare-prefix-answer Inv-loop μ-loop
+slice-reshare-prefix-answer c = omega arith
+
+slice-aggregate-answer : tie.Need-slice-aggregate-answer Inv-loop μ-loop
+slice-aggregate-answer c = sym (length-take-le _ _ (omega arith))
+
+answer-requires : tie.Need-answer-requires Inv-loop μ-loop
+answer-requires c κs = omega (arith, end-within 10 (c .before .before .before .before .before .before .before .before .before .before .before .before .before .before .before .args .input .now) (c .before .before .before .before .before .before .before .before .before .before .loop .from) (c .before .before .before .before .before .before .before .before .before .end-of .result) (c .before .before .before .before .before .before .before .before .before .before .loop .inv .0) (c .before .before .before .before .before .before .before .before .before .end-of .ensures), c .before .before .before .if1 .left)
+
+add-from : tie.Need-add-from Inv-loop μ-loop
+add-from c = omega (arith, end-within 10 (c .before .before .before .before .before .before .before .before .before .before .before .before .before .before .before .before .before .before .before .before .args .input .now) (c .before .before .before .before .before .before .before .before .before .before .before .before .before .before .before .loop .from) (c .before .before .before .before .before .before .before .before .before .before .before .before .before .before .end-of .result) (c .before .before .before .before .before .before .before .before .before .before .before .before .before .before .before .loop .inv .0) (c .before .before .before .before .before .before .before .before .before .before .before .before .before .before .end-of .ensures))
+
+loop-less : tie.Need-loop-less Inv-loop μ-loop
+loop-less c = omega (arith, end-within 10 (c .before .before .before .before .before .before .before .before .before .before .before .before .before .before .before .before .before .before .before .before .args .input .now) (c .before .before .before .before .before .before .before .before .before .before .before .before .before .before .before .loop .from) (c .before .before .before .before .before .before .before .before .before .before .before .before .before .before .end-of .result) (c .before .before .before .before .before .before .before .before .before .before .before .before .before .before .before .loop .inv .0) (c .before .before .before .before .before .before .before .before .before .before .before .before .before .before .end-of .ensures), c .before .before .before .before .before .before .before .before .if1 .left)
+
+loop-again : tie.Need-loop-again Inv-loop μ-loop
+loop-again c =
+    let l = c .before .before .before .before .before .before .before .before .before .before .before .before .before .before .before .loop in
+    let past = end-within 10 (c .before .before .before .before .before .before .before .before .before .before .before .before .before .before .before .before .before .before .before .before .args .input .now) (l .from) (c .before .before .before .before .before .before .before .before .before .before .before .before .before .before .end-of .result) (l .inv .0) (c .before .before .before .before .before .before .before .before .before .before .before .before .before .before .end-of .ensures) in
+    let more = c .before .before .before .before .before .before .before .before .if1 .left in
+    let put = c .before .before .before .before .before .before .before .before .before .before .before .append in
+    let said = c .before .before .before .before .answer in
+    (omega arith, omega arith, omega (arith, said .ensures, said .kept, l .inv), omega (arith, put .kept, l .inv), omega (arith, said .kept, l .inv), omega (arith, said .kept, l .inv))
+
+pub take-in-spec : {M : Type 1} → statement M
+take-in-spec =
+    tie.close
+    (tie.spec Inv-loop μ-loop loop-holds end-of-requires sub-append part-append-start part-append-end append-requires same-length
+    same-length-2 same-length-3 returns slice-reshare-prefix-answer slice-aggregate-answer answer-requires add-from loop-less loop-again)

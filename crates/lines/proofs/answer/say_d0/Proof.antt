@@ -1,0 +1,30 @@
+-- `say_d0` meets its contract: the answer of each case.
+use mathlib.Core.Path.{sym, ap}
+use borrow.Author.Needs.{needs}
+use native.Mathlib.Omega.{arith}
+use Rattle.paper.specs.declared.MeasuredD0.{MeasuredD0}
+use Rattle.paper.specs.Refusals.{measuredD0}
+use Rattle.lines.specs.declared.call.Verb.the-variants as Verb
+use Rattle.lines.specs.Answers.{spoken}
+use Rattle.lines.proofs.Answers.{put-text}
+use Rattle.lines.proofs.answer.say_d0.Statement.{statement}
+use Rattle.lines.proofs.answer.say_d0.Tie as tie
+
+returns : tie.Need-returns
+returns c =
+    (put-text (ap (λ (x : MeasuredD0). spoken Verb.D0 (measuredD0 x)) (sym (c .before .before .before .before .before .before .before .answer .given .1))) (c .before .before .say-two .ensures .0), omega arith)
+
+returns-2 : tie.Need-returns-2
+returns-2 c =
+    (put-text (ap (λ (x : MeasuredD0). spoken Verb.D0 (measuredD0 x)) (sym (c .before .before .before .before .before .before .answer2 .given .1))) (c .before .before .say-one .ensures .0), omega arith)
+
+returns-3 : tie.Need-returns-3
+returns-3 c =
+    (put-text (ap (λ (x : MeasuredD0). spoken Verb.D0 (measuredD0 x)) (sym (c .before .before .before .before .before .answer3 .given .1))) (c .before .before .say-refused .ensures .0 Verb.D0), omega arith)
+
+pub say-d0-spec : {M : Type 1} → statement M
+say-d0-spec =
+    tie.close
+    (tie.spec (λ c. search needs) (λ c. search needs) (λ c. search needs) (λ c κs. search needs) (λ c. search needs) (λ c. search needs)
+    (λ c κs. search needs) (λ c. search needs) (λ c κs. search needs) (λ c. search needs) returns (λ c. search needs) returns-2
+    (λ c. search needs) returns-3)

@@ -1,0 +1,25 @@
+-- `say_reading` meets its contract: the answer of each case.
+use mathlib.Core.Path.{sym, ap}
+use borrow.Author.Needs.{needs}
+use native.Mathlib.Omega.{arith}
+use Rattle.paper.specs.declared.Reading.{Reading}
+use Rattle.paper.specs.Refusals.{reading}
+use Rattle.lines.specs.declared.call.Verb.the-variants as Verb
+use Rattle.lines.specs.Answers.{spoken}
+use Rattle.lines.proofs.Answers.{put-text}
+use Rattle.lines.proofs.answer.say_reading.Statement.{statement}
+use Rattle.lines.proofs.answer.say_reading.Tie as tie
+
+returns : tie.Need-returns
+returns c =
+    (put-text (ap (λ (x : Reading). spoken Verb.Read (reading x)) (sym (c .before .before .before .before .before .before .before .before .answer .given .1))) (c .before .before .say-three .ensures .0), omega arith)
+
+returns-2 : tie.Need-returns-2
+returns-2 c =
+    (put-text (ap (λ (x : Reading). spoken Verb.Read (reading x)) (sym (c .before .before .before .before .before .answer2 .given .1))) (c .before .before .say-refused .ensures .0 Verb.Read), omega arith)
+
+pub say-reading-spec : {M : Type 1} → statement M
+say-reading-spec =
+    tie.close
+    (tie.spec (λ c. search needs) (λ c. search needs) (λ c. search needs) (λ c. search needs) (λ c κs. search needs) (λ c. search needs)
+    (λ c κs. search needs) (λ c. search needs) returns (λ c. search needs) returns-2)
