@@ -87,15 +87,18 @@ fn answer(line: &[u8], numbers: &mut [u32], out: &mut [u8], at: usize) -> usize
 {
     match lines::parse(line, numbers) {
         Call::Admit(sheet) => admit(sheet, numbers, out, at),
-        Call::Write {
+        Call::Write(sheet, message, stuck, levels) => write(
             sheet,
+            numbers,
             message,
             stuck,
             levels,
-        } => write(sheet, numbers, message, stuck, levels, out, at),
-        Call::Read { sheet, y, radius } => read(sheet, numbers, y, radius, out, at),
-        Call::D0 { sheet, cap } => d0(sheet, numbers, cap, out, at),
-        Call::D1 { sheet, cap } => d1(sheet, numbers, cap, out, at),
+            out,
+            at,
+        ),
+        Call::Read(sheet, y, radius) => read(sheet, numbers, y, radius, out, at),
+        Call::D0(sheet, cap) => d0(sheet, numbers, cap, out, at),
+        Call::D1(sheet, cap) => d1(sheet, numbers, cap, out, at),
         Call::Silent => at,
         Call::Unknown => lines::say_unknown(out, at),
     }

@@ -20,7 +20,7 @@ abbrev pub fitting : Number → Number
 fitting (Value n) = elim (ltb n (2 ^ 32)) [ true ↦ Value n | false ↦ None ]
 fitting None = None
 
--- "A number is one or more ASCII digits whose value fits u32 (leading zeros allowed)."
+-- one or more digits whose value 32 bits hold; leading zeros are digits
 unfoldable pub numeral : List ℕ → Number
 unfolding valued
 numeral [] = None

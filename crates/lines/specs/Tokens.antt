@@ -14,7 +14,7 @@ abbrev pub led : ℕ → List (List ℕ) → List (List ℕ)
 led b [] = (b ∷ []) ∷ []
 led b (t ∷ ts) = (b ∷ t) ∷ ts
 
--- "Tokens are separated by exactly one space": each space ends a token, so that a leading, trailing or double space makes an empty one
+-- "tokens separated by one space": each space ends a token, so that a leading, trailing or double space makes an empty one
 unfoldable pub tokens : List ℕ → List (List ℕ)
 tokens [] = [] ∷ []
 tokens (b ∷ bs) = elim (eqb b 32) [ true ↦ [] ∷ tokens bs | false ↦ led b (tokens bs) ]

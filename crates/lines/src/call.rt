@@ -49,28 +49,14 @@ pub enum Shape {
     None,
 }
 
-// What a line asks for.
+// What a line asks for: a call with its sheet, and then its own numbers in the order of the protocol (`write`: message, stuck, levels;
+// `read`: y, radius; `d0` and `d1`: cap); nothing, for an empty line or a comment; or what is no call.
 pub enum Call {
     Admit(Sheet),
-    Write {
-        sheet: Sheet,
-        message: u32,
-        stuck: u32,
-        levels: u32,
-    },
-    Read {
-        sheet: Sheet,
-        y: u32,
-        radius: u32,
-    },
-    D0 {
-        sheet: Sheet,
-        cap: u32,
-    },
-    D1 {
-        sheet: Sheet,
-        cap: u32,
-    },
+    Write(Sheet, u32, u32, u32),
+    Read(Sheet, u32, u32),
+    D0(Sheet, u32),
+    D1(Sheet, u32),
     Silent,
     Unknown,
 }
@@ -177,37 +163,22 @@ fn call_of(verb: Verb, sheet: Sheet, numbers: &[u32]) -> Call
             Call::Unknown
         },
         Verb::Write => if left == 3 {
-            Call::Write {
-                sheet,
-                message: numbers[at],
-                stuck: numbers[at + 1],
-                levels: numbers[at + 2],
-            }
+            Call::Write(sheet, numbers[at], numbers[at + 1], numbers[at + 2])
         } else {
             Call::Unknown
         },
         Verb::Read => if left == 2 {
-            Call::Read {
-                sheet,
-                y: numbers[at],
-                radius: numbers[at + 1],
-            }
+            Call::Read(sheet, numbers[at], numbers[at + 1])
         } else {
             Call::Unknown
         },
         Verb::D0 => if left == 1 {
-            Call::D0 {
-                sheet,
-                cap: numbers[at],
-            }
+            Call::D0(sheet, numbers[at])
         } else {
             Call::Unknown
         },
         Verb::D1 => if left == 1 {
-            Call::D1 {
-                sheet,
-                cap: numbers[at],
-            }
+            Call::D1(sheet, numbers[at])
         } else {
             Call::Unknown
         },

@@ -18,6 +18,12 @@ Inv-loop input line₀ held numbers₀ out₀ from₀ held₀ at₀ line numbers
 abbrev μ-loop : tie.MeasureT-loop
 μ-loop input line₀ held numbers₀ out₀ from₀ held₀ at₀ line numbers out from held' at = length input - from
 
+-- a line's end lies within the piece
+end-in : (c : tie.After-end-of Inv-loop μ-loop) → c .end-of .result ≤ length (c .before .before .before .before .before .before .args .input .now)
+end-in c =
+    let l = c .before .loop in
+    end-within 10 (c .before .before .before .before .before .before .args .input .now) (l .from) (c .end-of .result) (l .inv .0) (c .end-of .ensures)
+
 loop-holds : tie.Need-loop-holds Inv-loop μ-loop
 loop-holds c = (omega arith, omega arith, omega arith, refl, refl, refl)
 
@@ -31,7 +37,7 @@ part-append-start : tie.Need-part-append-start Inv-loop μ-loop
 part-append-start c = omega arith
 
 part-append-end : tie.Need-part-append-end Inv-loop μ-loop
-part-append-end c = end-within 10 (c .before .before .before .before .before .before .before .args .input .now) (c .before .before .loop .from) (c .before .end-of .result) (c .before .before .loop .inv .0) (c .before .end-of .ensures)
+part-append-end c = end-in (c .before)
 
 append-requires : tie.Need-append-requires Inv-loop μ-loop
 append-requires c κs = omega arith
@@ -55,22 +61,28 @@ slice-aggregate-answer : tie.Need-slice-aggregate-answer Inv-loop μ-loop
 slice-aggregate-answer c = sym (length-take-le _ _ (omega arith))
 
 answer-requires : tie.Need-answer-requires Inv-loop μ-loop
-answer-requires c κs = omega (arith, end-within 10 (c .before .before .before .before .before .before .before .before .before .before .before .before .before .before .before .args .input .now) (c .before .before .before .before .before .before .before .before .before .before .loop .from) (c .before .before .before .before .before .before .before .before .before .end-of .result) (c .before .before .before .before .before .before .before .before .before .before .loop .inv .0) (c .before .before .before .before .before .before .before .before .before .end-of .ensures), c .before .before .before .if1 .left)
+answer-requires c κs = omega (arith, end-in (c .before .before .before .before .before .before .before .before .before), c .before .before .before .if1 .left)
 
 add-from : tie.Need-add-from Inv-loop μ-loop
-add-from c = omega (arith, end-within 10 (c .before .before .before .before .before .before .before .before .before .before .before .before .before .before .before .before .before .before .before .before .args .input .now) (c .before .before .before .before .before .before .before .before .before .before .before .before .before .before .before .loop .from) (c .before .before .before .before .before .before .before .before .before .before .before .before .before .before .end-of .result) (c .before .before .before .before .before .before .before .before .before .before .before .before .before .before .before .loop .inv .0) (c .before .before .before .before .before .before .before .before .before .before .before .before .before .before .end-of .ensures))
+add-from c = omega (arith, end-in (c .before .before .before .before .before .before .before .before .before .before .before .before .before .before))
 
 loop-less : tie.Need-loop-less Inv-loop μ-loop
-loop-less c = omega (arith, end-within 10 (c .before .before .before .before .before .before .before .before .before .before .before .before .before .before .before .before .before .before .before .before .args .input .now) (c .before .before .before .before .before .before .before .before .before .before .before .before .before .before .before .loop .from) (c .before .before .before .before .before .before .before .before .before .before .before .before .before .before .end-of .result) (c .before .before .before .before .before .before .before .before .before .before .before .before .before .before .before .loop .inv .0) (c .before .before .before .before .before .before .before .before .before .before .before .before .before .before .end-of .ensures), c .before .before .before .before .before .before .before .before .if1 .left)
+loop-less c = omega (arith, end-in (c .before .before .before .before .before .before .before .before .before .before .before .before .before .before), c .before .before .before .before .before .before .before .before .if1 .left)
 
 loop-again : tie.Need-loop-again Inv-loop μ-loop
 loop-again c =
     let l = c .before .before .before .before .before .before .before .before .before .before .before .before .before .before .before .loop in
-    let past = end-within 10 (c .before .before .before .before .before .before .before .before .before .before .before .before .before .before .before .before .before .before .before .before .args .input .now) (l .from) (c .before .before .before .before .before .before .before .before .before .before .before .before .before .before .end-of .result) (l .inv .0) (c .before .before .before .before .before .before .before .before .before .before .before .before .before .before .end-of .ensures) in
+    let past = end-in (c .before .before .before .before .before .before .before .before .before .before .before .before .before .before) in
     let more = c .before .before .before .before .before .before .before .before .if1 .left in
     let put = c .before .before .before .before .before .before .before .before .before .before .before .append in
-    let said = c .before .before .before .before .answer in
-    (omega arith, omega arith, omega (arith, said .ensures, said .kept, l .inv), omega (arith, put .kept, l .inv), omega (arith, said .kept, l .inv), omega (arith, said .kept, l .inv))
+    let said = c .before .before .before .before .answer in (
+      omega arith,
+      omega arith,
+      omega (arith, said .ensures, l .inv),
+      omega (arith, put .kept, l .inv),
+      omega (arith, said .kept, l .inv),
+      omega (arith, said .kept, l .inv),
+    )
 
 pub take-in-spec : {M : Type 1} → statement M
 take-in-spec =

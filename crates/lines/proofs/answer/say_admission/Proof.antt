@@ -13,11 +13,17 @@ use Rattle.lines.proofs.answer.say_admission.Tie as tie
 
 returns : tie.Need-returns
 returns c =
-    (put-text (ap (λ (x : Admission). spoken Verb.Admit (admission x)) (sym (c .before .before .before .before .before .enum-told .given .1))) (put-append (c .before .before .before .before .before .before .before .before .args .out .now) (bytes "admitted\n") (c .before .before .append .last .0) (c .before .before .before .before .before .before .before .before .args .at) (c .before .before .append .result) (omega arith) (c .before .before .append .ensures .0) (c .before .before .append .ensures .1)), omega arith)
+    let answered = c .before .before .before .before .before .enum-told .given .1 in
+    let said = c .before .before .append in
+    let a = c .before .before .before .before .before .before .before .before .args in
+    let put = put-append (a .out .now) (bytes "admitted\n") (said .last .0) (a .at) (said .result) (omega arith) (said .ensures .0) (said .ensures .1) in
+    (put-text (ap (λ (x : Admission). spoken Verb.Admit (admission x)) (sym answered)) put, omega arith)
 
 returns-2 : tie.Need-returns-2
 returns-2 c =
-    (put-text (ap (λ (x : Admission). spoken Verb.Admit (admission x)) (sym (c .before .before .before .before .before .answer .given .1))) (c .before .before .say-refused .ensures .0 Verb.Admit), omega arith)
+    let answered = c .before .before .before .before .before .answer .given .1 in
+    let said = c .before .before .say-refused in
+    (put-text (ap (λ (x : Admission). spoken Verb.Admit (admission x)) (sym answered)) (said .ensures .0 Verb.Admit), omega arith)
 
 pub say-admission-spec : {M : Type 1} → statement M
 say-admission-spec =

@@ -12,15 +12,21 @@ use Rattle.lines.proofs.answer.say_d0.Tie as tie
 
 returns : tie.Need-returns
 returns c =
-    (put-text (ap (λ (x : MeasuredD0). spoken Verb.D0 (measuredD0 x)) (sym (c .before .before .before .before .before .before .before .answer .given .1))) (c .before .before .say-two .ensures .0), omega arith)
+    let answered = c .before .before .before .before .before .before .before .answer .given .1 in
+    let said = c .before .before .say-two in
+    (put-text (ap (λ (x : MeasuredD0). spoken Verb.D0 (measuredD0 x)) (sym answered)) (said .ensures .0), omega arith)
 
 returns-2 : tie.Need-returns-2
 returns-2 c =
-    (put-text (ap (λ (x : MeasuredD0). spoken Verb.D0 (measuredD0 x)) (sym (c .before .before .before .before .before .before .answer2 .given .1))) (c .before .before .say-one .ensures .0), omega arith)
+    let answered = c .before .before .before .before .before .before .answer2 .given .1 in
+    let said = c .before .before .say-one in
+    (put-text (ap (λ (x : MeasuredD0). spoken Verb.D0 (measuredD0 x)) (sym answered)) (said .ensures .0), omega arith)
 
 returns-3 : tie.Need-returns-3
 returns-3 c =
-    (put-text (ap (λ (x : MeasuredD0). spoken Verb.D0 (measuredD0 x)) (sym (c .before .before .before .before .before .answer3 .given .1))) (c .before .before .say-refused .ensures .0 Verb.D0), omega arith)
+    let answered = c .before .before .before .before .before .answer3 .given .1 in
+    let said = c .before .before .say-refused in
+    (put-text (ap (λ (x : MeasuredD0). spoken Verb.D0 (measuredD0 x)) (sym answered)) (said .ensures .0 Verb.D0), omega arith)
 
 pub say-d0-spec : {M : Type 1} → statement M
 say-d0-spec =

@@ -12,15 +12,21 @@ use Rattle.lines.proofs.answer.say_d1.Tie as tie
 
 returns : tie.Need-returns
 returns c =
-    (put-text (ap (λ (x : MeasuredD1). spoken Verb.D1 (measuredD1 x)) (sym (c .before .before .before .before .before .before .before .before .answer .given .1))) (c .before .before .say-three .ensures .0), omega arith)
+    let answered = c .before .before .before .before .before .before .before .before .answer .given .1 in
+    let said = c .before .before .say-three in
+    (put-text (ap (λ (x : MeasuredD1). spoken Verb.D1 (measuredD1 x)) (sym answered)) (said .ensures .0), omega arith)
 
 returns-2 : tie.Need-returns-2
 returns-2 c =
-    (put-text (ap (λ (x : MeasuredD1). spoken Verb.D1 (measuredD1 x)) (sym (c .before .before .before .before .before .before .before .answer2 .given .1))) (c .before .before .say-two .ensures .0), omega arith)
+    let answered = c .before .before .before .before .before .before .before .answer2 .given .1 in
+    let said = c .before .before .say-two in
+    (put-text (ap (λ (x : MeasuredD1). spoken Verb.D1 (measuredD1 x)) (sym answered)) (said .ensures .0), omega arith)
 
 returns-3 : tie.Need-returns-3
 returns-3 c =
-    (put-text (ap (λ (x : MeasuredD1). spoken Verb.D1 (measuredD1 x)) (sym (c .before .before .before .before .before .answer3 .given .1))) (c .before .before .say-refused .ensures .0 Verb.D1), omega arith)
+    let answered = c .before .before .before .before .before .answer3 .given .1 in
+    let said = c .before .before .say-refused in
+    (put-text (ap (λ (x : MeasuredD1). spoken Verb.D1 (measuredD1 x)) (sym answered)) (said .ensures .0 Verb.D1), omega arith)
 
 pub say-d1-spec : {M : Type 1} → statement M
 say-d1-spec =

@@ -12,11 +12,15 @@ use Rattle.lines.proofs.answer.say_reading.Tie as tie
 
 returns : tie.Need-returns
 returns c =
-    (put-text (ap (λ (x : Reading). spoken Verb.Read (reading x)) (sym (c .before .before .before .before .before .before .before .before .answer .given .1))) (c .before .before .say-three .ensures .0), omega arith)
+    let answered = c .before .before .before .before .before .before .before .before .answer .given .1 in
+    let said = c .before .before .say-three in
+    (put-text (ap (λ (x : Reading). spoken Verb.Read (reading x)) (sym answered)) (said .ensures .0), omega arith)
 
 returns-2 : tie.Need-returns-2
 returns-2 c =
-    (put-text (ap (λ (x : Reading). spoken Verb.Read (reading x)) (sym (c .before .before .before .before .before .answer2 .given .1))) (c .before .before .say-refused .ensures .0 Verb.Read), omega arith)
+    let answered = c .before .before .before .before .before .answer2 .given .1 in
+    let said = c .before .before .say-refused in
+    (put-text (ap (λ (x : Reading). spoken Verb.Read (reading x)) (sym answered)) (said .ensures .0 Verb.Read), omega arith)
 
 pub say-reading-spec : {M : Type 1} → statement M
 say-reading-spec =

@@ -13,13 +13,21 @@ returns : tie.Need-returns
 returns c =
     let reason = c .before .before .before .before .before .before .before .before .before .reason-of in
     let said = c .before .before .say-two in
-    (λ verb. put-text (ap (λ (x : Number). spoken verb (refusal (reason .result .number) (placed x))) (sym (c .before .before .before .before .before .before .before .place .given .1)) ∙ ap (spoken verb) (reason .ensures)) (said .ensures .0), omega arith)
+    let place = c .before .before .before .before .before .before .before .place .given .1 in (
+      λ verb. put-text (ap (λ (x : Number). spoken verb (refusal (reason .result .number) (placed x))) (sym place)
+          ∙ ap (spoken verb) (reason .ensures)) (said .ensures .0),
+      omega arith,
+    )
 
 returns-2 : tie.Need-returns-2
 returns-2 c =
     let reason = c .before .before .before .before .before .before .before .reason-of in
     let said = c .before .before .say-one in
-    (λ verb. put-text (ap (λ (x : Number). spoken verb (refusal (reason .result .number) (placed x))) (sym (c .before .before .before .before .before .enum-told .given .1)) ∙ ap (spoken verb) (reason .ensures)) (said .ensures .0), omega arith)
+    let place = c .before .before .before .before .before .enum-told .given .1 in (
+      λ verb. put-text (ap (λ (x : Number). spoken verb (refusal (reason .result .number) (placed x))) (sym place)
+          ∙ ap (spoken verb) (reason .ensures)) (said .ensures .0),
+      omega arith,
+    )
 
 pub say-refused-spec : {M : Type 1} → statement M
 say-refused-spec =

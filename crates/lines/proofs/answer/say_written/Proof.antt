@@ -12,11 +12,15 @@ use Rattle.lines.proofs.answer.say_written.Tie as tie
 
 returns : tie.Need-returns
 returns c =
-    (put-text (ap (λ (x : Written). spoken Verb.Write (written x)) (sym (c .before .before .before .before .before .before .before .answer .given .1))) (c .before .before .say-two .ensures .0), omega arith)
+    let answered = c .before .before .before .before .before .before .before .answer .given .1 in
+    let said = c .before .before .say-two in
+    (put-text (ap (λ (x : Written). spoken Verb.Write (written x)) (sym answered)) (said .ensures .0), omega arith)
 
 returns-2 : tie.Need-returns-2
 returns-2 c =
-    (put-text (ap (λ (x : Written). spoken Verb.Write (written x)) (sym (c .before .before .before .before .before .answer2 .given .1))) (c .before .before .say-refused .ensures .0 Verb.Write), omega arith)
+    let answered = c .before .before .before .before .before .answer2 .given .1 in
+    let said = c .before .before .say-refused in
+    (put-text (ap (λ (x : Written). spoken Verb.Write (written x)) (sym answered)) (said .ensures .0 Verb.Write), omega arith)
 
 pub say-written-spec : {M : Type 1} → statement M
 say-written-spec =

@@ -13,12 +13,16 @@ returns-2 : tie.Need-returns-2
 returns-2 c = (sym (asked-comment (c .before .before .before .before .before .args .line .now) (omega arith) (c .if2 .taken)), tt)
 
 returns-3 : tie.Need-returns-3
-returns-3 c = (sym (asked-long-line (c .before .before .before .before .before .before .args .line .now) (omega arith) (c .before .if2 .left) (c .if3 .taken)), tt)
+returns-3 c =
+    let line = c .before .before .before .before .before .before .args .line .now in
+    (sym (asked-long-line line (omega arith) (c .before .if2 .left) (c .if3 .taken)), tt)
 
 returns-4 : tie.Need-returns-4
 returns-4 c =
     let p = c .before .before .parse-call in
-    (p .ensures .0 ∙ sym (asked-spelled (c .before .before .before .before .before .before .before .before .before .before .args .line .now) (omega arith) (c .before .before .before .before .before .if2 .left) (omega arith)), p .ensures .1)
+    let line = c .before .before .before .before .before .before .before .before .before .before .args .line .now in
+    let call = c .before .before .before .before .before .if2 .left in
+    (p .ensures .0 ∙ sym (asked-spelled line (omega arith) call (omega arith)), p .ensures .1)
 
 pub parse-spec : {M : Type 1} → statement M
 parse-spec = tie.close (tie.spec returns (λ c. search needs) returns-2 returns-3 (λ c κs. search needs) (λ c. search needs) returns-4)

@@ -14,7 +14,8 @@ call-of-requires c κs =
 returns : tie.Need-returns
 returns c =
     let a = c .before .before .before .before .before .before .args in
-    let shaped = subst (λ (x : Shape). Shaped x (a .numbers .now)) (c .before .before .sheet .given .1) (c .before .before .before .before .sheet-of .ensures) in
+    let shaped =
+    subst (λ (x : Shape). Shaped x (a .numbers .now)) (c .before .before .sheet .given .1) (c .before .before .before .before .sheet-of .ensures) in
     (c .call-of .ensures .0 ∙ sym (shaped .1 (a .verb)), c .call-of .ensures .1)
 
 returns-2 : tie.Need-returns-2

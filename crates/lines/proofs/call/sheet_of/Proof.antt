@@ -16,7 +16,8 @@ returns-3 c verb = formed-lies verb (c .before .before .before .before .args .nu
 
 returns-4 : tie.Need-returns-4
 returns-4 c =
-    (omega arith, λ verb. formed-sheet verb (c .before .before .before .before .before .before .before .args .numbers .now) (omega arith) (omega arith) (omega arith))
+    let ns = c .before .before .before .before .before .before .before .args .numbers .now in
+    (omega arith, λ verb. formed-sheet verb ns (omega arith) (omega arith) (omega arith))
 
 pub sheet-of-spec : {M : Type 1} → statement M
 sheet-of-spec =
