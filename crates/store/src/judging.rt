@@ -12,7 +12,7 @@ use words::lowest_of;
 use words::strays_of;
 
 // 8: the lowest cell with "a stuck or level bit at cell n or above, or a level bit at a cell not stuck".
-pub fn find_misplaced(n: u32, stuck: u32, levels: u32) -> Place
+pub(crate) fn find_misplaced(n: u32, stuck: u32, levels: u32) -> Place
     requires { ⌜ n ≤ width ⌝ }
     ensures { λ r. ⌜ placed r ≡ first width (misplaced n stuck levels) ⌝ }
 {
@@ -21,7 +21,7 @@ pub fn find_misplaced(n: u32, stuck: u32, levels: u32) -> Place
 }
 
 // 10: the lowest cell at which the "read word has a bit at cell n or above".
-pub fn find_stray_cell(n: u32, y: u32) -> Place
+pub(crate) fn find_stray_cell(n: u32, y: u32) -> Place
     requires { ⌜ n ≤ width ⌝ }
     ensures { λ r. ⌜ placed r ≡ first width (strayCell n y) ⌝ }
 {
@@ -29,7 +29,7 @@ pub fn find_stray_cell(n: u32, y: u32) -> Place
 }
 
 // 11: a cap of 1 to 8.
-pub fn is_cap(cap: u32) -> bool
+pub(crate) fn is_cap(cap: u32) -> bool
     ensures { λ r. ⌜ r ≡ capped cap ⌝ }
 {
     if cap < 1 {

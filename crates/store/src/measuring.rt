@@ -34,7 +34,7 @@ fn find_hidden(n: u32, k: u32, l: u32, rows: &[u32], cap: u32) -> Found
 }
 
 // 11, then "the distance, or "more than the cap", and the number tried".
-pub fn measure_admitted_d0(n: u32, k: u32, l: u32, rows: &[u32], cap: u32) -> MeasuredD0
+pub(crate) fn measure_admitted_d0(n: u32, k: u32, l: u32, rows: &[u32], cap: u32) -> MeasuredD0
     requires { ⌜ Sound (sheet n k l (now rows)) ⌝ }
     ensures { λ r. ⌜ measuredD0 r ≡ measuresAdmittedD0 (sheet n k l (now (rows .entry))) cap ⌝ }
 {
@@ -51,7 +51,7 @@ pub fn measure_admitted_d0(n: u32, k: u32, l: u32, rows: &[u32], cap: u32) -> Me
 }
 
 // The same of d1, with "the radius to print on the plate".
-pub fn measure_admitted_d1(n: u32, k: u32, l: u32, rows: &[u32], cap: u32) -> MeasuredD1
+pub(crate) fn measure_admitted_d1(n: u32, k: u32, l: u32, rows: &[u32], cap: u32) -> MeasuredD1
     requires { ⌜ Sound (sheet n k l (now rows)) ⌝ }
     ensures { λ r. ⌜ measuredD1 r ≡ measuresAdmittedD1 (sheet n k l (now (rows .entry))) cap ⌝ }
 {

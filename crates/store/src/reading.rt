@@ -27,7 +27,7 @@ fn find_nearest(n: u32, k: u32, l: u32, rows: &[u32], y: u32, radius: u32) -> Fo
 }
 
 // 10, then 11, then the message of the nearest codeword, or 12.
-pub fn read_admitted(n: u32, k: u32, l: u32, rows: &[u32], y: u32, radius: u32) -> Reading
+pub(crate) fn read_admitted(n: u32, k: u32, l: u32, rows: &[u32], y: u32, radius: u32) -> Reading
     requires { ⌜ Sound (sheet n k l (now rows)) ⌝ }
     ensures { λ r. ⌜ reading r ≡ readsAdmitted (sheet n k l (now (rows .entry))) y radius ⌝ }
 {

@@ -40,7 +40,7 @@ fn write_placed(
 }
 
 // 7, then 8, then the word.
-pub fn write_admitted(
+pub(crate) fn write_admitted(
     n: u32,
     k: u32,
     l: u32,
