@@ -42,6 +42,7 @@ G0-row s = first (s .l) (dependent (G0 s))
 abbrev pub H-row : Sheet → First
 H-row s = first (r s) (dependent (H s))
 
+-- rules 1 to 6 hold
 pub record Passed (s : Sheet) : Type 0 where
   pub shape : shaped s ≡ true
   pub strays : stray-row s ≡ nowhere
@@ -94,6 +95,7 @@ unlessAt-stage : (place : First) (number base : ℕ) → Stage (unlessAt place n
 unlessAt-stage nowhere number base = passes (λ next. refl)
 unlessAt-stage (at i) number base = refuses number ((base + i) ∷ []) (λ next. refl)
 
+-- two rules, one after the other
 then : {f g : Told → Told} → Stage f → Stage g → Stage (λ next. f (g next))
 then {f} {g} (passes p) (passes q) = passes (λ next. p (g next) ∙ q next)
 then {f} {g} (passes p) (refuses number given q) = refuses number given (λ next. p (g next) ∙ q next)
@@ -103,11 +105,10 @@ judged-stage : (s : Sheet) → Stage (judged s)
 unfolding judged
 judged-stage s =
     then (unless-stage (shaped s) 1)
-    (then (unlessAt-stage (first (length (s .rows)) (stray s)) 2 0)
-    (then (unlessAt-stage (first (s .k + s .l) (offCode s)) 3 0)
-    (then (unlessAt-stage (first (s .k + s .l) (offMessage s)) 4 0)
-    (then (unlessAt-stage (first (s .l) (dependent (G0 s))) 5 (s .k))
-    (unlessAt-stage (first (r s) (dependent (H s))) 6 (s .k + s .l))))))
+    (then (unlessAt-stage (stray-row s) 2 0)
+    (then (unlessAt-stage (code-row s) 3 0)
+    (then (unlessAt-stage (message-row s) 4 0)
+    (then (unlessAt-stage (G0-row s) 5 (s .k)) (unlessAt-stage (H-row s) 6 (s .k + s .l))))))
 
 -- a refusal of the sheet is every call's
 pub refused-next : (s : Sheet) {number : ℕ} {given : List ℕ} → admits s ≡ refusal number given → (next : Told) → judged s next ≡ refusal number given
