@@ -17,6 +17,7 @@ use Rattle.words.proofs.Products.{product-lt, product-cases, product-comm, prod
 use Rattle.elimination.specs.Evidence.{Evidence}
 use Rattle.elimination.proofs.Span.{All, Perp, Low, Span, span-perp, sum-span, span-sum, products-of-perp, perp-of-products}
 
+-- a word over n cells that has product 0 with every row and product 1 with y
 pub record Tells (n : ℕ) (R : List ℕ) (y : ℕ) : Type 0 where
   pub by : ℕ
   pub low : by < 2 ^ n
@@ -27,6 +28,7 @@ all-⊕ : (a b : ℕ) (R : List ℕ) → All (Perp a) R → All (Perp b) R → A
 all-⊕ a b [] h l = tt
 all-⊕ a b (r ∷ R) h l = (⊕-product a b r ∙ ap₂ (λ (u v : ℕ). (u + v) % 2) (h .0) (l .0), all-⊕ a b R (h .1) (l .1))
 
+-- y is a sum of the rows, or some word tells it from all their sums
 pub tell : (n : ℕ) (R : List ℕ) (y : ℕ) → All (Low n) R → y < 2 ^ n → Span R y ⊎ Tells n R y
 tell n [] y h l = go (ℕ-discrete y 0)
   where

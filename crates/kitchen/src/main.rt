@@ -5,6 +5,7 @@ use paper::MeasuredD1;
 use paper::Reading;
 use paper::Written;
 
+// The kitchen sheet: n 7, k 3, l 1.
 const N: u32 = 7;
 
 const K: u32 = 3;
@@ -62,6 +63,7 @@ fn read_back(rows: &[u32], word: u32) {
     }
 }
 
+// The four lines, in their order.
 fn main() {
     let rows = kitchen_rows();
     measure(&rows);

@@ -27,12 +27,14 @@ pub data Call : Type 0 where
   d0 : Sheet → ℕ → Call
   d1 : Sheet → ℕ → Call
 
+-- what the definition of a call tells
 pub tells : Call → Told
 tells (write s message stuck levels) = writes s message stuck levels
 tells (read s y radius) = reads s y radius
 tells (d0 s cap) = measuresD0 s cap
 tells (d1 s cap) = measuresD1 s cap
 
+-- a row of the table
 pub record Case : Type 0 where
   pub call : Call
   pub told : Told
@@ -41,6 +43,7 @@ infix 70 _gives_
 _gives_ : Call → Told → Case
 call gives told = record { call = call; told = told }
 
+-- those marked * in document 01, in its order
 pub cases : List Case
 cases =
     write kitchen 5 0 0 gives answer (85 ∷ 0 ∷ [])

@@ -14,6 +14,7 @@ pub record Shaped (s : Sheet) : Type 0 where
   pub room : s .k + s .l ≤ s .n
   pub all-rows : length (s .rows) ≡ s .n + s .k
 
+-- the parts' lengths, their rows over n cells, the products that the rules ask for, and rows none of which is a sum of earlier ones
 pub record Sound (s : Sheet) : Type 0 where
   pub shape : Shaped s
   pub count-G1 : length (G1 s) ≡ s .k

@@ -28,5 +28,6 @@ readsAdmitted s y t =
 unfoldable pub measuresAdmittedD0 : Sheet → ℕ → Told
 measuresAdmittedD0 s cap = unless (capped cap) 11 (plateD0 (searchD0 s cap))
 
+-- the same of d1
 unfoldable pub measuresAdmittedD1 : Sheet → ℕ → Told
 measuresAdmittedD1 s cap = unless (capped cap) 11 (plateD1 cap (searchD1 s cap))
