@@ -1,20 +1,22 @@
 -- The alternative: some choice of rows has the target's levels at the mask's cells, or a set of those cells shows that none has:
 -- every row meets the set in an even number of cells, and the target in an odd number. Never both.
 -- Demand 3's first half rests on it, and request 10 hands the set out. Assumes nothing.
-use mathlib.Core.Path.{_≡_, refl, sym, ap, ap₂, _∙_, subst}
+use mathlib.Core.Path.{_≡_, sym, ap, ap₂, _∙_, subst}
 use mathlib.Core.Logic.{_⊎_, inl, inr}
-use mathlib.Core.List.{List, [], _∷_, map}
+use mathlib.Core.List.{List, [], _∷_}
 use Prim.Native.Nat.{ℕ, _+_, _-_, _%_, _^_, _<_}
 use native.Mathlib.Nat.{lt-of-le-of-lt}
 use native.Mathlib.Decide.{ℕ-discrete}
 use native.Mathlib.Omega.{arith}
-use lib.Bits.{bitAnd, and-comm, and-le-l, and-zero-r}
-use lib.ListN.{length}
+use lib.Bits.{bitAnd, and-comm, and-le-r}
+use lib.ListN.{length, length-map}
 use Rattle.paper.specs.Words.{product, sum, _⊕_}
 use Rattle.words.proofs.Cells.{and-and, lt-pow}
-use Rattle.words.proofs.Sums.{⊕-cancel, ⊕-lt, and-⊕}
+use Rattle.words.proofs.Sums.{⊕-lt}
 use Rattle.words.proofs.Products.{product-lt, product-cases, product-comm, product-⊕, ⊕-product, product-some, product-mask}
 use Rattle.elimination.specs.Evidence.{Evidence}
+use Rattle.elimination.specs.Kept.{masked}
+use Rattle.elimination.proofs.Masked.{sum-masked}
 use Rattle.elimination.proofs.Span.{All, Perp, Low, Span, span-perp, sum-span, span-sum, products-of-perp, perp-of-products}
 
 -- a word over n cells that has product 0 with every row and product 1 with y
@@ -58,44 +60,34 @@ tell n (g ∷ R) y h l = go (tell n R y (h .1) l) (tell n R (g ⊕ y) (h .1) (�
     go (inr s) (inl t) = inl (inr t)
     go (inr s) (inr t) = inr (last s t (product-cases (s .by) g) (product-cases (t .by) g))
 
--- ---- the rows at the stuck cells
+-- ---- the rows on the mask's cells
 
-abbrev pub at : ℕ → ℕ → ℕ
-at s x = bitAnd s x
+masked-low : (n mask : ℕ) → mask < 2 ^ n → (rows : List ℕ) → All (Low n) (masked mask rows)
+masked-low n mask h [] = tt
+masked-low n mask h (row ∷ rows) = (lt-of-le-of-lt (and-le-r row mask) h, masked-low n mask h rows)
 
-at-low : (n s : ℕ) → s < 2 ^ n → (R : List ℕ) → All (Low n) (map (at s) R)
-at-low n s h [] = tt
-at-low n s h (r ∷ R) = (lt-of-le-of-lt (and-le-l s r) h, at-low n s h R)
-
-span-at : (s : ℕ) (R : List ℕ) (y : ℕ) → Span (map (at s) R) y → (x : ℕ) × Span R x × (at s x ≡ y)
-span-at s [] y h = (0, refl, and-zero-r s ∙ sym h)
-span-at s (r ∷ R) y (inl h) = let t = span-at s R y h in (t .0, inl (t .1), t .2)
-span-at s (r ∷ R) y (inr h) =
-    let t = span-at s R (at s r ⊕ y) h in
-    (r ⊕ t .0, inr (subst (Span R) (sym (⊕-cancel r (t .0))) (t .1)), and-⊕ s r (t .0) ∙ ap (λ (z : ℕ). at s r ⊕ z) (t .2) ∙ ⊕-cancel (at s r) y)
-
-perp-at : (c s : ℕ) (R : List ℕ) → All (Perp c) (map (at s) R) → All (Perp (bitAnd c s)) R
-perp-at c s [] h = tt
-perp-at c s (r ∷ R) h = (product-mask c s r ∙ h .0, perp-at c s R (h .1))
+perp-masked : (c mask : ℕ) (rows : List ℕ) → All (Perp c) (masked mask rows) → All (Perp (bitAnd c mask)) rows
+perp-masked c mask [] h = tt
+perp-masked c mask (row ∷ rows) h = (product-mask c mask row ∙ ap (product c) (and-comm mask row) ∙ h .0, perp-masked c mask rows (h .1))
 
 -- ---- a choice of rows, or evidence; never both
 
 module _ (rows : List ℕ) (mask target : ℕ) where
   pub alternative : ((d : ℕ) × (d < 2 ^ length rows) × (bitAnd (sum rows d) mask ≡ bitAnd target mask)) ⊎ ((c : ℕ) × Evidence rows mask target c)
-  alternative = go (tell mask (map (at mask) rows) (at mask target) (at-low mask mask (lt-pow mask) rows) (lt-of-le-of-lt (and-le-l mask target) (lt-pow mask)))
+  alternative =
+      go (tell mask (masked mask rows) (bitAnd target mask) (masked-low mask mask (lt-pow mask) rows) (lt-of-le-of-lt (and-le-r target mask) (lt-pow mask)))
     where
-      go : Span (map (at mask) rows) (at mask target) ⊎ Tells mask (map (at mask) rows) (at mask target)
+      go : Span (masked mask rows) (bitAnd target mask) ⊎ Tells mask (masked mask rows) (bitAnd target mask)
           → ((d : ℕ) × (d < 2 ^ length rows) × (bitAnd (sum rows d) mask ≡ bitAnd target mask)) ⊎ ((c : ℕ) × Evidence rows mask target c)
       go (inl h) =
-          let t = span-at mask rows (at mask target) h in
-          let r = span-sum rows (t .0) (t .1) in
-          inl (r .0, r .1, and-comm (sum rows (r .0)) mask ∙ ap (at mask) (r .2) ∙ t .2 ∙ and-comm mask target)
+          let r = span-sum (masked mask rows) (bitAnd target mask) h in
+          inl (r .0, subst (λ (m : ℕ). r .0 < 2 ^ m) (length-map rows (λ (row : ℕ). bitAnd row mask)) (r .1), sym (sum-masked mask rows (r .0)) ∙ r .2)
       go (inr t) = inr (
         bitAnd (t .by) mask,
         record {
           inside = and-and (t .by) mask;
-          even = products-of-perp rows (bitAnd (t .by) mask) (perp-at (t .by) mask rows (t .rows));
-          odd = product-mask (t .by) mask target ∙ t .word;
+          even = products-of-perp rows (bitAnd (t .by) mask) (perp-masked (t .by) mask rows (t .rows));
+          odd = product-mask (t .by) mask target ∙ ap (product (t .by)) (and-comm mask target) ∙ t .word;
         },
       )
 

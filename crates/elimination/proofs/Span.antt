@@ -167,23 +167,7 @@ span-sum (g ∷ gs) x (inr s) =
           ∙ ap (λ (y : ℕ). g ⊕ y) (r .2) ∙ ⊕-cancel g x,
     )
 
--- independent rows: each sum from one number
-pub sum-inj : (gs : List ℕ) → Indep gs → (d e : ℕ) → d < 2 ^ length gs → e < 2 ^ length gs → sum gs d ≡ sum gs e → d ≡ e
-sum-inj [] i d e h l p = omega arith
-sum-inj (g ∷ gs) i d e h l p = go (parity d) (parity e) (sum-inj gs (i .1) (d / 2) (e / 2) (omega (arith, pow-suc 2 (length gs))) (omega (arith, pow-suc 2 (length gs))))
-  where
-    mixed : (a b : ℕ) → a ≡ g ⊕ b → Span gs a → Span gs b → ⊥
-    mixed a b q s t = i .0 (subst (Span gs) (ap (λ (x : ℕ). x ⊕ b) q ∙ (let u : (g ⊕ b) ⊕ b ≡ g = simp sums in u)) (span-⊕ gs a b s t))
-
-    go : (d % 2 ≡ 0) ⊎ (d % 2 ≡ 1) → (e % 2 ≡ 0) ⊎ (e % 2 ≡ 1) → (sum gs (d / 2) ≡ sum gs (e / 2) → d / 2 ≡ e / 2) → d ≡ e
-    go (inl a) (inl b) f = by-half (f (sym (sum-even g gs d a) ∙ p ∙ sum-even g gs e b)) (a ∙ sym b)
-    go (inr a) (inr b) f = by-half
-        (f (sym (⊕-cancel g (sum gs (d / 2))) ∙ ap (λ (x : ℕ). g ⊕ x) (sym (sum-odd g gs d a) ∙ p ∙ sum-odd g gs e b) ∙ ⊕-cancel g (sum gs (e / 2))))
-        (a ∙ sym b)
-    go (inl a) (inr b) f = absurd (mixed (sum gs (d / 2)) (sum gs (e / 2)) (sym (sum-even g gs d a) ∙ p ∙ sum-odd g gs e b) (sum-span gs (d / 2)) (sum-span gs (e / 2)))
-    go (inr a) (inl b) f = absurd (mixed (sum gs (e / 2)) (sum gs (d / 2)) (sym (sum-even g gs e b) ∙ sym p ∙ sum-odd g gs d a) (sum-span gs (e / 2)) (sum-span gs (d / 2)))
-
--- the other way: if only 0 gives the sum 0, the rows are independent
+-- if only the empty choice gives the sum 0, the rows are independent
 pub indep-of-zero : (gs : List ℕ) → ((d : ℕ) → d < 2 ^ length gs → sum gs d ≡ 0 → d ≡ 0) → Indep gs
 indep-of-zero [] f = tt
 indep-of-zero (g ∷ gs) f = (head, indep-of-zero gs (λ d h e. tail d h e))
