@@ -1,7 +1,7 @@
 -- The words of message w are exactly the 2^l sums wG1 + dG0, each from one d. Assumes nothing.
 -- A word with message 0 that is no sum of G0 would make, with G0, one row too many beside M and H: exchange forbids it.
 use mathlib.Core.Path.{_≡_, sym, ap, ap₂, _∙_, subst}
-use mathlib.Core.Logic.{inl, inr, _↔_}
+use mathlib.Core.Logic.{_↔_}
 use mathlib.Core.List.{List, [], _∷_, _++_}
 use Prim.Native.Nat.{ℕ, _+_, _-_, _*_, _/_, _%_, _^_, _<_}
 use native.Mathlib.Nat.{mod-lt, div-add-mod', add-comm, zero-mul}
@@ -15,7 +15,7 @@ use Rattle.words.proofs.Cells.{ext, cell-unit-swap}
 use Rattle.words.proofs.Sums.{⊕-cancel, ⊕-self, ⊕-zero-l, ⊕-zero-r, ⊕-lt}
 use Rattle.words.proofs.Products.{product-comm, product-unit, cell-products, products-lt, products-⊕, products-zero}
 use Rattle.words.proofs.Rows.{sum-zero, sum-append, sum-mod, product-sum}
-use Rattle.elimination.proofs.Span.{All, All-map, All-append, Low, Perp, Span, Indep, Cross, span-dec, span-lt, sum-span, span-sum, cross-flip, products-of-perp, perp-of-products, indep-of-zero, free-zero, free-once, free-indep}
+use Rattle.elimination.proofs.Span.{All, All-map, All-append, Low, Perp, Span, Indep, Cross, span-dec, span-closed, span-lt, sum-span, span-sum, cross-flip, products-of-perp, perp-of-products, indep-of-zero, free-zero, free-once, free-indep}
 use Rattle.elimination.proofs.Exchange.{exchange}
 use Rattle.sheet.specs.Sound.{Sound}
 
@@ -30,13 +30,8 @@ read-sum gs ms d h e =
 
 -- a sum of rows that have product 0 with all of ms has too
 pub clear-sum : (ms gs : List ℕ) → All (λ g. products ms g ≡ 0) gs → (d : ℕ) → products ms (sum gs d) ≡ 0
-clear-sum ms gs h d = go gs h (sum gs d) (sum-span gs d)
-  where
-    go : (gs : List ℕ) → All (λ g. products ms g ≡ 0) gs → (x : ℕ) → Span gs x → products ms x ≡ 0
-    go [] h x s = ap (products ms) s ∙ products-zero ms
-    go (g ∷ gs) h x (inl s) = go gs (h .1) x s
-    go (g ∷ gs) h x (inr s) =
-        ap (products ms) (sym (⊕-cancel g x)) ∙ products-⊕ ms g (g ⊕ x) ∙ ap₂ _⊕_ (h .0) (go gs (h .1) (g ⊕ x) s) ∙ ⊕-zero-l 0
+clear-sum ms gs h d =
+    span-closed (λ g. products ms g ≡ 0) (products-zero ms) (λ x y a b. products-⊕ ms x y ∙ ap₂ _⊕_ a b ∙ ⊕-zero-l 0) gs h (sum gs d) (sum-span gs d)
 
 cross-of : (gs ms : List ℕ) → All (λ g. products ms g ≡ 0) gs → Cross gs ms
 cross-of gs ms h = All-map {P = λ g. products ms g ≡ 0} {Q = λ g. All (Perp g) ms} (λ g e. perp-of-products ms g e) gs h
