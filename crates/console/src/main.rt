@@ -4,11 +4,18 @@ use libc::STDIN_FILENO;
 use libc::STDOUT_FILENO;
 use lines::Call;
 use lines::Sheet;
-ghost use Prim.Native.Nat.{_+_, _*_, _≤_};
+ghost use Prim.Native.Nat.{_+_, _*_, _≤_, _<_};
 ghost use mathlib.Core.Path.{_≡_};
-ghost use lib.ListN.{length};
-ghost use Rattle.lines.specs.Answers.{roomAnswer};
-ghost use Rattle.lines.specs.Rooms.{roomNumbers, Held};
+ghost use lib.ListN.{length, take};
+ghost use Rattle.paper.specs.Sheet.{admits};
+ghost use Rattle.paper.specs.Writing.{writes};
+ghost use Rattle.paper.specs.Reading.{reads};
+ghost use Rattle.paper.specs.Plate.{measuresD0, measuresD1};
+ghost use Rattle.lines.specs.declared.call.Verb.the-variants as Verb;
+ghost use Rattle.lines.specs.Calls.{asked, roomLine};
+ghost use Rattle.lines.specs.Answers.{spoken, roomAnswer, Put};
+ghost use Rattle.lines.specs.Rooms.{roomNumbers, lent, Held};
+ghost use Rattle.console.specs.Replies.{replied, replies, begunAfter};
 
 // What a piece of the input leaves: how many bytes are held of a line that has not ended, and how many bytes the answers have.
 struct Carried {
@@ -20,6 +27,7 @@ struct Carried {
 fn admit(sheet: Sheet, numbers: &[u32], out: &mut [u8], at: usize) -> usize
     requires { ⌜ Held sheet (now numbers) ⌝ }
     requires { ⌜ at + roomAnswer ≤ length (now out) ⌝ }
+    ensures { λ r. ⌜ Put (now (out .entry)) at (spoken Verb.Admit (admits (lent sheet (now (numbers .entry))))) r (now (out .exit)) ⌝ }
     ensures { λ r. ⌜ r ≤ at + roomAnswer ⌝ }
 {
     let rows = lines::rows_of(sheet, numbers);
@@ -39,6 +47,7 @@ fn write(
 ) -> usize
     requires { ⌜ Held sheet (now numbers) ⌝ }
     requires { ⌜ at + roomAnswer ≤ length (now out) ⌝ }
+    ensures { λ r. ⌜ Put (now (out .entry)) at (spoken Verb.Write (writes (lent sheet (now (numbers .entry))) message stuck levels)) r (now (out .exit)) ⌝ }
     ensures { λ r. ⌜ r ≤ at + roomAnswer ⌝ }
 {
     let rows = lines::rows_of(sheet, numbers);
@@ -50,6 +59,7 @@ fn write(
 fn read(sheet: Sheet, numbers: &[u32], y: u32, radius: u32, out: &mut [u8], at: usize) -> usize
     requires { ⌜ Held sheet (now numbers) ⌝ }
     requires { ⌜ at + roomAnswer ≤ length (now out) ⌝ }
+    ensures { λ r. ⌜ Put (now (out .entry)) at (spoken Verb.Read (reads (lent sheet (now (numbers .entry))) y radius)) r (now (out .exit)) ⌝ }
     ensures { λ r. ⌜ r ≤ at + roomAnswer ⌝ }
 {
     let rows = lines::rows_of(sheet, numbers);
@@ -61,6 +71,7 @@ fn read(sheet: Sheet, numbers: &[u32], y: u32, radius: u32, out: &mut [u8], at: 
 fn d0(sheet: Sheet, numbers: &[u32], cap: u32, out: &mut [u8], at: usize) -> usize
     requires { ⌜ Held sheet (now numbers) ⌝ }
     requires { ⌜ at + roomAnswer ≤ length (now out) ⌝ }
+    ensures { λ r. ⌜ Put (now (out .entry)) at (spoken Verb.D0 (measuresD0 (lent sheet (now (numbers .entry))) cap)) r (now (out .exit)) ⌝ }
     ensures { λ r. ⌜ r ≤ at + roomAnswer ⌝ }
 {
     let rows = lines::rows_of(sheet, numbers);
@@ -72,6 +83,7 @@ fn d0(sheet: Sheet, numbers: &[u32], cap: u32, out: &mut [u8], at: usize) -> usi
 fn d1(sheet: Sheet, numbers: &[u32], cap: u32, out: &mut [u8], at: usize) -> usize
     requires { ⌜ Held sheet (now numbers) ⌝ }
     requires { ⌜ at + roomAnswer ≤ length (now out) ⌝ }
+    ensures { λ r. ⌜ Put (now (out .entry)) at (spoken Verb.D1 (measuresD1 (lent sheet (now (numbers .entry))) cap)) r (now (out .exit)) ⌝ }
     ensures { λ r. ⌜ r ≤ at + roomAnswer ⌝ }
 {
     let rows = lines::rows_of(sheet, numbers);
@@ -83,6 +95,7 @@ fn d1(sheet: Sheet, numbers: &[u32], cap: u32, out: &mut [u8], at: usize) -> usi
 fn answer(line: &[u8], numbers: &mut [u32], out: &mut [u8], at: usize) -> usize
     requires { ⌜ roomNumbers ≤ length (now numbers) ⌝ }
     requires { ⌜ at + roomAnswer ≤ length (now out) ⌝ }
+    ensures { λ r. ⌜ Put (now (out .entry)) at (replied (asked (now (line .entry)))) r (now (out .exit)) ⌝ }
     ensures { λ r. ⌜ r ≤ at + roomAnswer ⌝ }
 {
     match lines::parse(line, numbers) {
@@ -104,8 +117,9 @@ fn answer(line: &[u8], numbers: &mut [u32], out: &mut [u8], at: usize) -> usize
     }
 }
 
-// Answers each line that ends in a piece of the input, and holds what stands behind the last one. An answered line takes at least the byte
-// that ends it, so there is room for all answers where there is room for one to each byte.
+// Answers each line that ends in a piece of the input, and holds what stands behind the last one, as far as the room for a line goes: more
+// than a call may have is enough to answer it. An answered line takes at least the byte that ends it, so there is room for all answers where
+// there is room for one to each byte.
 fn take_in(
     input: &[u8],
     line: &mut [u8],
@@ -114,8 +128,11 @@ fn take_in(
     out: &mut [u8],
 ) -> Carried
     requires { ⌜ held ≤ length (now line) ⌝ }
+    requires { ⌜ roomLine < length (now line) ⌝ }
     requires { ⌜ roomNumbers ≤ length (now numbers) ⌝ }
     requires { ⌜ roomAnswer * length (now input) ≤ length (now out) ⌝ }
+    ensures { λ r. ⌜ Put (now (out .entry)) 0 (replies (take held (now (line .entry))) (now (input .entry))) (r .at) (now (out .exit)) ⌝ }
+    ensures { λ r. ⌜ take (r .held) (now (line .exit)) ≡ take (length (now (line .entry))) (begunAfter (take held (now (line .entry))) (now (input .entry))) ⌝ }
     ensures { λ r. ⌜ r .held ≤ length (now (line .entry)) ⌝ }
     ensures { λ r. ⌜ r .at ≤ length (now (out .entry)) ⌝ }
 {
@@ -137,6 +154,7 @@ fn take_in(
 // Reads standard input to its end, piece by piece, and answers its lines; the last one need not end. A proved loop has to end, and
 // nothing says that the input does: so it counts its turns down, from a number that no run uses up.
 fn run(input: &mut [u8], line: &mut [u8], numbers: &mut [u32], out: &mut [u8])
+    requires { ⌜ roomLine < length (now line) ⌝ }
     requires { ⌜ roomNumbers ≤ length (now numbers) ⌝ }
     requires { ⌜ roomAnswer ≤ length (now out) ⌝ }
     requires { ⌜ roomAnswer * length (now input) ≤ length (now out) ⌝ }
