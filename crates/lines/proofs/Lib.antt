@@ -1,6 +1,3 @@
--- The laws that the functions' proofs cite, a file for each file of specs/.
-pub mod Numerals
-pub mod Tokens
-pub mod Calls
-pub mod Answers
-mod Examples
+-- The laws that the functions' proofs cite, and that the numbers of a call stand where its shape has them.
+pub mod Shapes
+pub mod Lines

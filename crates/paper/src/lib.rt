@@ -3,6 +3,12 @@
 // The number of cells that a word of the machine has: `width` of specs/Words.antt.
 pub const WIDTH: u32 = 32;
 
+// A word of cells, as the machine has it: WIDTH bits.
+pub type Word = u32;
+
+// A number of cells, rows or tries.
+pub type Count = u32;
+
 // Why a call is refused: "the refusal carries its reason and the reason carries its row".
 pub enum Refusal {
     Shape,

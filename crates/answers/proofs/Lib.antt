@@ -1,0 +1,2 @@
+-- The laws of labels that the functions' proofs cite.
+pub mod Answers
