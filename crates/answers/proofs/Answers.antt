@@ -1,4 +1,5 @@
--- Labels and lists, one value after the other. Assumes nothing.
+-- Labels with values, one after the other, and the values of what was told.
+-- The functions' proofs cite them.
 use mathlib.Core.Path.{_≡_, refl, sym, ap, ap₂, _∙_}
 use mathlib.Core.List.{List, [], _∷_, _++_, append-assoc}
 use Prim.Native.Nat.{ℕ, zero, suc, _+_, _-_, _≤_, _<_, min}

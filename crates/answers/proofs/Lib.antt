@@ -1,2 +1,3 @@
--- The laws of labels that the functions' proofs cite.
+-- The laws of labels.
+-- The functions' proofs cite them.
 pub mod Answers

@@ -1,2 +1,3 @@
--- How long a room is.
+-- How long the rooms are.
+-- The rooms' own functions cite it.
 mod Rooms

@@ -1,3 +1,4 @@
--- The laws that the functions' proofs cite, and that the numbers of a call stand where its shape has them.
+-- The laws of shapes and of lines.
+-- The functions' proofs cite them; `asked-placed` and `asked-held` are for the crates above.
 pub mod Shapes
 pub mod Lines

@@ -1,4 +1,5 @@
--- The table, and the tokens of a line. Assumes nothing.
+-- The table, a whole line with its carriage return, and its tokens; a line that is clipped asks for what the whole line does (`asked-held`).
+-- The numbers of a call stand where the shape of its verb has them (`asked-placed`): that is what a verb may count on.
 use mathlib.Core.Path.{_≡_, refl, sym, ap, _∙_, subst}
 use mathlib.Core.Bool.{Bool, true, false, cond}
 use mathlib.Core.Option.{Option, none, some}

@@ -1,4 +1,5 @@
--- Shapes as they are read, and the numbers that fit them. Assumes nothing.
+-- Shapes as they are read, letter by letter, and the numbers that fit them.
+-- `fill` cites the first part; the second says where each number stands (`fill-placed`).
 use mathlib.Core.Path.{_≡_, refl, sym, ap, ap₂, _∙_, subst}
 use mathlib.Core.Bool.{Bool, true, false, cond}
 use mathlib.Core.Option.{Option, none, some}

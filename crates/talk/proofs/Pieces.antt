@@ -1,4 +1,5 @@
--- The lines of the input, however it comes in pieces and however much of a line that is too long is held. Assumes nothing.
+-- The lines of the input, however it comes in pieces, however much is held of a line that is too long, and however the last line ends.
+-- `take_step` cites the steps, and the console puts them together (`answered-more`).
 use mathlib.Core.Path.{_≡_, refl, sym, ap, ap₂, _∙_, subst}
 use mathlib.Core.Bool.{Bool, true, false}
 use mathlib.Core.List.{List, [], _∷_, _++_, append-assoc}
@@ -14,7 +15,7 @@ use Rattle.text.proofs.Pieces.{whole-nil, whole-join, whole-take, upTo-whole, u
 use Rattle.lines.specs.Lines.{Asked, asked, roomLine}
 use Rattle.lines.proofs.Lines.{asked-held}
 use Rattle.verbs.specs.Replies.{table, reply}
-use Rattle.talk.specs.Talk.{replies, talk, Stepped, Answered}
+use Rattle.talk.specs.Talk.{replies, talk, Stepped, Answered, Rooms}
 
 replies-cons : (line : List ℕ) (lines : List (List ℕ)) → replies (line ∷ lines) ≡ reply (asked table line) ++ replies lines
 unfolding replies
@@ -134,3 +135,8 @@ answered-more {text = text} {begun'' = begun''} {rest'' = rest''} (before, s) t 
     whole = t .whole;
   },
 )
+
+-- rooms of the same lengths
+pub rooms-kept : {line ns out line' ns' out' : List ℕ} → length line' ≡ length line → length ns' ≡ length ns → length out' ≡ length out → Rooms line ns out
+    → Rooms line' ns' out'
+rooms-kept l n o r = record { lines = omega arith; numbers = omega arith; answers = omega arith }

@@ -1,5 +1,5 @@
 -- Lines and their answers, computed: what the definitions say of an example is what is written down.
--- They show a verb's labels, "more than the cap", a refusal with its place, and a number that its place does not hold.
+-- They show a verb's labels, a refusal with its place, and a number that its place does not hold.
 use mathlib.Core.Path.{_≡_, refl}
 use lib.Count.{ones}
 use Rattle.paper.specs.Words.{sum}

@@ -1,2 +1,3 @@
--- No laws: a verb's answer computes. The examples show it.
+-- No laws: a verb's answer computes.
+-- The examples show it.
 mod Examples

@@ -1,4 +1,5 @@
 -- `say_labels` meets its contract: the text alone, or the values.
+-- A verb without values, as `admit`, answers by its text alone.
 use borrow.Author.Needs.{needs}
 use native.Mathlib.Omega.{arith}
 use Rattle.text.proofs.Puts.{put-text}

@@ -1,4 +1,5 @@
 -- `say_values` meets its contract: the text that is put and that of the labels and values that are left are the whole.
+-- It is one loop for the labels of every verb.
 use mathlib.Core.Path.{_≡_, refl, ap, _∙_}
 use mathlib.Core.List.{List, [], _++_}
 use Prim.Native.Nat.{ℕ, _+_, _-_, _*_, _≤_}

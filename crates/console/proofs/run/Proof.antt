@@ -8,6 +8,7 @@ use lib.ListN.{length, take}
 use lib.Seq.{length-take-le}
 use Rattle.text.specs.Tokens.{Whole}
 use Rattle.text.proofs.Pieces.{whole-nil}
+use Rattle.talk.proofs.Pieces.{rooms-kept}
 use Rattle.console.proofs.run.Statement.{statement}
 use Rattle.console.proofs.run.Tie as tie
 
@@ -23,7 +24,9 @@ slice-aggregate-take-in : tie.Need-slice-aggregate-take-in Inv-loop μ-loop
 slice-aggregate-take-in c = sym (length-take-le _ _ (omega arith))
 
 take-in-requires : tie.Need-take-in-requires Inv-loop μ-loop
-take-in-requires c κs = (omega arith, (c .before .before .before .before .before .before .before .before .before .loop .inv .5, record { lines = omega arith; numbers = omega arith; answers = omega arith }))
+take-in-requires c κs =
+    let i = c .before .before .before .before .before .before .before .before .before .loop .inv in
+    (i .0, (i .5, rooms-kept (i .2) (i .3) (i .4) (c .before .before .before .before .before .before .before .before .before .before .before .before .before .before .pre .1)))
 
 loop-again : tie.Need-loop-again Inv-loop μ-loop
 loop-again c = (omega arith, omega arith, omega arith, omega arith, omega arith, c .before .before .before .before .before .before .before .before .before .take-in .ensures .1 .0)

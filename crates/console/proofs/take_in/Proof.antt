@@ -1,14 +1,15 @@
 -- `take_in` meets its contract: the texts of the steps so far, one after the other, are the answer to what was taken of the piece.
 -- Each turn takes a byte at least, and the rooms keep their lengths.
 use mathlib.Core.Path.{_≡_, refl, sym, subst}
-use mathlib.Core.List.{List, []}
+use mathlib.Core.Bool.{true, false}
+use mathlib.Core.List.{[]}
 use Prim.Native.Nat.{ℕ, _-_, _≤_}
 use borrow.Author.Needs.{needs}
 use native.Mathlib.Omega.{arith}
 use lib.ListN.{length, take, drop, drop-of-length-le}
 use lib.Seq.{length-take-le}
 use Rattle.talk.specs.Talk.{Answered}
-use Rattle.talk.proofs.Pieces.{answered-none, answered-more}
+use Rattle.talk.proofs.Pieces.{answered-none, answered-more, rooms-kept}
 use Rattle.console.proofs.take_in.Statement.{statement}
 use Rattle.console.proofs.take_in.Tie as tie
 
@@ -20,6 +21,10 @@ Inv-loop input line₀ held ns₀ out₀ from₀ held₀ line ns out from held' 
 abbrev μ-loop : tie.MeasureT-loop
 μ-loop input line₀ held ns₀ out₀ from₀ held₀ line ns out from held' = length input - from
 
+-- a bool is not both
+apart : false ≡ true → ⊥
+apart e = let z : _≡_ {A = ℕ} 0 1 = cc in omega arith
+
 loop-holds : tie.Need-loop-holds Inv-loop μ-loop
 loop-holds c =
     let a = c .before .before .before .before .args in
@@ -27,7 +32,8 @@ loop-holds c =
 
 take-step-requires : tie.Need-take-step-requires Inv-loop μ-loop
 take-step-requires c κs =
-    (omega arith, (omega arith, (c .before .before .before .before .loop .inv .5 .1 .whole, record { lines = omega arith; numbers = omega arith; answers = omega arith })))
+    let i = c .before .before .before .before .loop .inv in
+    (omega arith, (i .1, (i .5 .1 .whole, rooms-kept (i .2) (i .3) (i .4) (c .before .before .before .before .before .before .before .before .before .pre .1 .1))))
 
 slice-aggregate-write-answer : tie.Need-slice-aggregate-write-answer Inv-loop μ-loop
 slice-aggregate-write-answer c = sym (length-take-le _ _ (omega arith))
@@ -35,7 +41,7 @@ slice-aggregate-write-answer c = sym (length-take-le _ _ (omega arith))
 returns : tie.Need-returns Inv-loop μ-loop
 returns c =
     let s = c .before .before .before .before .before .before .before .before .before .take-step in
-    (omega arith, (s .ensures .0 .whole, λ e. let z : _≡_ {A = ℕ} 0 1 = cc in absurd (omega arith)))
+    (omega arith, (s .ensures .0 .whole, λ e. absurd (apart e)))
 
 loop-again : tie.Need-loop-again Inv-loop μ-loop
 loop-again c =

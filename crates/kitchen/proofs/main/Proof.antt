@@ -1,5 +1,5 @@
--- `main` meets its contract: it is safe.
--- What was put lies within the room.
+-- `main` meets its contract: it is safe, since what was put lies within the room.
+-- What it writes is compared in the gate.
 use mathlib.Core.Path.{sym}
 use borrow.Author.Needs.{needs}
 use native.Mathlib.Omega.{arith}

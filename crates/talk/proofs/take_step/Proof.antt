@@ -1,4 +1,5 @@
 -- `take_step` meets its contract: the line goes on, or it ends and is answered.
+-- It is the step that the console repeats.
 use mathlib.Core.Path.{_≡_, sym, ap, _∙_}
 use Prim.Native.Nat.{_≤_}
 use borrow.Author.Needs.{needs}

@@ -1,4 +1,5 @@
 -- `take_line` meets its contract: the bytes up to the newline, behind those that are held.
+-- It is how a line that comes in pieces is held.
 use mathlib.Core.Path.{_≡_, ap, ap₂, _∙_}
 use mathlib.Core.List.{List, _++_}
 use Prim.Native.Nat.{ℕ, _+_, _≤_, min}

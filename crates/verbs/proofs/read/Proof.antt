@@ -1,4 +1,5 @@
 -- `read` meets its contract: what the call answers is what is told.
+-- The shape of the verb has every number at the place that is read.
 use mathlib.Core.Path.{_∙_}
 use borrow.Author.Needs.{needs}
 use Rattle.verbs.proofs.read.Statement.{statement}

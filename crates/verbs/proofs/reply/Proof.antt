@@ -1,4 +1,5 @@
--- `reply` meets its contract: each verb's arm.
+-- `reply` meets its contract: each verb's arm says what its call tells, behind its labels.
+-- A verb adds a need of its call and an answer here, of a line or two each.
 use mathlib.Core.Path.{_≡_, sym, ap, _∙_, subst}
 use mathlib.Core.List.{List, []}
 use Prim.Native.Nat.{ℕ, _≤_}

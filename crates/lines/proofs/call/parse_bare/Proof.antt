@@ -1,4 +1,5 @@
 -- `parse_bare` meets its contract: silent, too long, or what its tokens spell.
+-- It is what `parse` does behind the end of a line.
 use mathlib.Core.Path.{sym, _∙_}
 use borrow.Author.Needs.{needs}
 use native.Mathlib.Omega.{arith}
