@@ -7,7 +7,7 @@ use native.Mathlib.Numerals.{add-one}
 use native.Mathlib.Decide.{decLe}
 use native.Mathlib.Omega.{arith}
 use lib.ListN.{length, getD, take, drop, drop-of-length-le}
-use lib.Seq.{drop-cons, drop-drop, take-all}
+use lib.Seq.{drop-cons, drop-drop}
 use Rattle.text.specs.Tokens.{upTo}
 use Rattle.text.specs.Puts.{decimal}
 use Rattle.text.proofs.Tokens.{token-upTo, take-least}

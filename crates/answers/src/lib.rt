@@ -1,5 +1,4 @@
 // The text of an answer: what a call told, behind labels, put into a room. Knows no verb.
-ghost use mathlib.Core.Path.{_≡_};
 ghost use Prim.Native.Nat.{_+_, _*_, _≤_};
 ghost use lib.ListN.{length};
 ghost use Rattle.text.specs.Puts.{Put};

@@ -5,7 +5,6 @@ use mathlib.Core.Bool.{Bool, true, false, cond}
 use mathlib.Core.Option.{Option, none, some}
 use mathlib.Core.List.{List, [], _∷_}
 use Prim.Native.Nat.{ℕ, zero, suc, _+_, _-_, _≤_, _<_}
-use native.Mathlib.Numerals.{add-one}
 use native.Mathlib.Decide.{decLe, ℕ-discrete}
 use native.Mathlib.Omega.{arith}
 use lib.Dec.{eqb, leb}
@@ -15,7 +14,7 @@ use borrow.Author.Tests.{eq-eqb, ne-eqb, le-leb, lt-leb}
 use Rattle.text.specs.Tokens.{upTo, cut, same}
 use Rattle.text.proofs.Tokens.{cut-at, cut-first}
 use Rattle.lines.specs.Shapes.{fill, Placed}
-use Rattle.lines.specs.Lines.{Asked, silent, unknown, call, Found, nowhere, at, lookup, shapeAt, called, calledAt, spelled, isSilent, asks, bare, asked, roomLine}
+use Rattle.lines.specs.Lines.{silent, unknown, call, Found, nowhere, at, lookup, shapeAt, called, calledAt, spelled, isSilent, asks, bare, asked, roomLine}
 use Rattle.lines.proofs.Shapes.{fill-placed}
 
 -- ---- the table

@@ -2,7 +2,7 @@
 ghost use mathlib.Core.Path.{_≡_};
 ghost use mathlib.Core.List.{List};
 ghost use Prim.Native.Nat.{ℕ, _+_, _*_, _≤_};
-ghost use lib.ListN.{length, take, drop};
+ghost use lib.ListN.{length, take};
 ghost use Rattle.text.specs.Tokens.{cut};
 ghost use Rattle.lines.specs.Shapes.{held, counted};
 ghost use Rattle.lines.specs.Lines.{lookup, found, spelled, bare, asks, asked, meant, used, roomLine, inTable};

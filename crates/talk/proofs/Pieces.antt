@@ -10,7 +10,7 @@ use lib.ListN.{length, take, drop, length-drop, drop-of-length-le}
 use lib.Seq.{drop-drop, take-all}
 use borrow.Author.Tests.{ltb-true, ltb-false}
 use Rattle.text.specs.Tokens.{upTo, Whole, led, cut}
-use Rattle.text.proofs.Tokens.{pieces, upTo-take, upTo-le}
+use Rattle.text.proofs.Tokens.{pieces, upTo-take}
 use Rattle.text.proofs.Pieces.{whole-nil, whole-join, whole-take, upTo-whole, upTo-split, cut-some, cut-front, cut-stop}
 use Rattle.lines.specs.Lines.{Asked, asked, roomLine}
 use Rattle.lines.proofs.Lines.{asked-held}

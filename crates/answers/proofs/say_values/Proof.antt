@@ -1,11 +1,11 @@
 -- `say_values` meets its contract: the text that is put and that of the labels and values that are left are the whole.
 -- It is one loop for the labels of every verb.
 use mathlib.Core.Path.{_≡_, refl, ap, _∙_}
-use mathlib.Core.List.{List, [], _++_}
+use mathlib.Core.List.{List, _++_}
 use Prim.Native.Nat.{ℕ, _+_, _-_, _*_, _≤_}
 use borrow.Author.Needs.{needs}
 use native.Mathlib.Omega.{arith}
-use lib.ListN.{length, take, drop, getD, length-take, length-drop, length-append}
+use lib.ListN.{length, take, drop, getD, length-take, length-append}
 use Rattle.text.specs.Puts.{decimal}
 use Rattle.text.proofs.Tokens.{end-within}
 use Rattle.text.proofs.Puts.{decimal-le, put-join, put-step, put-whole}

@@ -2,7 +2,6 @@
 -- Each turn takes a byte at least, and the rooms keep their lengths.
 use mathlib.Core.Path.{_≡_, refl, sym, subst}
 use mathlib.Core.Bool.{true, false}
-use mathlib.Core.List.{[]}
 use Prim.Native.Nat.{ℕ, _-_, _≤_}
 use borrow.Author.Needs.{needs}
 use native.Mathlib.Omega.{arith}

@@ -1,8 +1,7 @@
 -- `answer` meets its contract: nothing, `unknown`, or the reply to the call that the line asks for, and a newline.
 -- It is how a line that has ended is answered.
 use mathlib.Core.Path.{_≡_, sym, ap, _∙_, subst}
-use mathlib.Core.List.{List, []}
-use Prim.Native.Nat.{ℕ, _≤_}
+use Prim.Native.Nat.{_≤_}
 use borrow.Author.Needs.{needs}
 use native.Mathlib.Omega.{arith}
 use lib.ListN.{length, take, length-take}
@@ -10,7 +9,7 @@ use lib.Seq.{length-take-le}
 use Rattle.text.proofs.Puts.{put-text, put-nothing, put-join}
 use Rattle.lines.specs.declared.call.Line.{Line}
 use Rattle.lines.specs.declared.call.Line.the-variants as Line
-use Rattle.lines.specs.Lines.{Asked, asked, meant, used}
+use Rattle.lines.specs.Lines.{asked, meant, used}
 use Rattle.lines.proofs.Lines.{asked-placed}
 use Rattle.verbs.specs.Replies.{table, reply}
 use Rattle.talk.proofs.answer.Statement.{statement}

@@ -1,11 +1,10 @@
 -- `take_step` meets its contract: the line goes on, or it ends and is answered.
 -- It is the step that the console repeats.
-use mathlib.Core.Path.{_≡_, sym, ap, _∙_}
-use Prim.Native.Nat.{_≤_}
+use mathlib.Core.Path.{sym}
 use borrow.Author.Needs.{needs}
 use borrow.Author.Tests.{not-true, not-false}
 use native.Mathlib.Omega.{arith}
-use lib.ListN.{length, take, drop}
+use lib.ListN.{length, take}
 use lib.Seq.{length-take-le}
 use Rattle.talk.proofs.Pieces.{step-stays, step-ends}
 use Rattle.talk.proofs.take_step.Statement.{statement}

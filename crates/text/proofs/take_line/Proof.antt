@@ -1,12 +1,12 @@
 -- `take_line` meets its contract: the bytes up to the newline, behind those that are held.
 -- It is how a line that comes in pieces is held.
-use mathlib.Core.Path.{_≡_, ap, ap₂, _∙_}
+use mathlib.Core.Path.{ap, _∙_}
 use mathlib.Core.List.{List, _++_}
 use Prim.Native.Nat.{ℕ, _+_, _≤_, min}
 use borrow.Author.Needs.{needs}
 use native.Mathlib.Omega.{arith}
 use lib.Dec.{ltb}
-use lib.ListN.{length, take, drop}
+use lib.ListN.{length, take}
 use Rattle.text.proofs.Tokens.{end-within, token-upTo}
 use Rattle.text.proofs.take_line.Statement.{statement}
 use Rattle.text.proofs.take_line.Tie as tie
