@@ -2,6 +2,7 @@
 // result at radius 1. Its whole output is four lines, put into one room and written at once; the gate compares them with `stdout` beside `src`.
 ghost use Prim.Native.Nat.{_+_, _≤_};
 ghost use lib.ListN.{length};
+use paper::Count;
 use paper::MeasuredD0;
 use paper::MeasuredD1;
 use paper::Reading;
@@ -13,11 +14,11 @@ use text::put;
 use text::put_number;
 
 // The kitchen sheet: n 7, k 3, l 1.
-const N: u32 = 7;
+const N: Count = 7;
 
-const K: u32 = 3;
+const K: Count = 3;
 
-const L: u32 = 1;
+const L: Count = 1;
 
 // The rows of the kitchen sheet: G1, G0, H, M.
 fn kitchen_rows() -> [Word; 10] {
@@ -25,7 +26,7 @@ fn kitchen_rows() -> [Word; 10] {
 }
 
 // A word of text, a number after it, and what ends them. A line is two of these at most, of 30 bytes each.
-fn put_part(out: &mut [u8], at: usize, name: &[u8], number: u32, end: &[u8]) -> usize
+fn put_part(out: &mut [u8], at: usize, name: &[u8], number: Word, end: &[u8]) -> usize
     requires { ⌜ length (now name) + length (now end) ≤ 10 ⌝ }
     requires { ⌜ at + 30 ≤ length (now out) ⌝ }
     ensures { λ r. ⌜ r ≤ at + 30 ⌝ }
@@ -36,7 +37,7 @@ fn put_part(out: &mut [u8], at: usize, name: &[u8], number: u32, end: &[u8]) -> 
 }
 
 // One measured distance on its line.
-fn put_distance(out: &mut [u8], at: usize, name: &[u8], d: u32, tried: u32) -> usize
+fn put_distance(out: &mut [u8], at: usize, name: &[u8], d: Word, tried: Word) -> usize
     requires { ⌜ length (now name) ≤ 5 ⌝ }
     requires { ⌜ at + 60 ≤ length (now out) ⌝ }
     ensures { λ r. ⌜ r ≤ at + 60 ⌝ }
