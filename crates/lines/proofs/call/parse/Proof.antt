@@ -14,9 +14,11 @@ slice-aggregate-parse-bare c = sym (length-take-le _ _ (omega arith))
 
 returns : tie.Need-returns
 returns c =
-    let a = c .before .before .before .before .before .before .before .before .before .args in
+    let c5 = c .before .before .before .before .before in
+    let c9 = c5 .before .before .before .before in
+    let a = c9 .args in
     let p = c .before .before .parse-bare in
-    (p .ensures .0 ∙ ap (asks (a .table .now)) (c .before .before .before .before .before .bare-end .ensures .0) ∙ sym (asked-bare (a .table .now) (a .line .now)), p .ensures .1)
+    (p .ensures .0 ∙ ap (asks (a .table .now)) (c5 .bare-end .ensures .0) ∙ sym (asked-bare (a .table .now) (a .line .now)), p .ensures .1)
 
 pub parse-spec : {M : Type 1} → statement M
 parse-spec =

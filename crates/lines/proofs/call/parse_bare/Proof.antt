@@ -11,16 +11,22 @@ returns : tie.Need-returns
 returns c = let a = c .before .before .before .before .args in (sym (asks-empty (a .table .now) (a .line .now) (c .if1 .taken)), omega arith)
 
 returns-2 : tie.Need-returns-2
-returns-2 c = let a = c .before .before .before .before .before .before .args in (sym (asks-comment (a .table .now) (a .line .now) (omega arith) (c .if2 .taken)), omega arith)
+returns-2 c =
+    let c6 = c .before .before .before .before .before .before in
+    let a = c6 .args in (sym (asks-comment (a .table .now) (a .line .now) (omega arith) (c .if2 .taken)), omega arith)
 
 returns-3 : tie.Need-returns-3
-returns-3 c = let a = c .before .before .before .before .before .before .before .args in (sym (asks-long (a .table .now) (a .line .now) (omega arith) (c .before .if2 .left) (c .if3 .taken)), omega arith)
+returns-3 c =
+    let c7 = c .before .before .before .before .before .before .before in
+    let a = c7 .args in (sym (asks-long (a .table .now) (a .line .now) (omega arith) (c .before .if2 .left) (c .if3 .taken)), omega arith)
 
 returns-4 : tie.Need-returns-4
 returns-4 c =
-    let a = c .before .before .before .before .before .before .before .before .before .before .before .args in
+    let c5 = c .before .before .before .before .before in
+    let c11 = c5 .before .before .before .before .before .before in
+    let a = c11 .args in
     let p = c .before .before .parse-call in
-    (p .ensures .0 ∙ sym (asks-spelled (a .table .now) (a .line .now) (omega arith) (c .before .before .before .before .before .if2 .left) (omega arith)), p .ensures .1)
+    (p .ensures .0 ∙ sym (asks-spelled (a .table .now) (a .line .now) (omega arith) (c5 .if2 .left) (omega arith)), p .ensures .1)
 
 pub parse-bare-spec : {M : Type 1} → statement M
 parse-bare-spec =
