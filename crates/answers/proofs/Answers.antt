@@ -42,6 +42,7 @@ label-turn labels values from end i next ends h n =
     (ap (λ (k : ℕ). drop k values) (sym (add-one i))))
     ∙ sym (append-assoc (take (end - from) (drop from labels)) (decimal (getD values i 0)) (labelled (drop next labels) (drop (i + 1) values)))
 
+-- no value is left
 pub label-end : (labels values : List ℕ) (i : ℕ) → length values ≤ i → labelled labels (drop i values) ≡ []
 unfolding labelled
 label-end labels values i h = ap (labelled labels) (drop-of-length-le values h)
@@ -51,6 +52,7 @@ pub said-none : (labels values : List ℕ) → length values ≡ 0 → labels �
 said-none labels [] h = refl
 said-none labels (n ∷ ns) h = absurd (omega arith)
 
+-- values stand behind their labels
 pub said-some : (labels values : List ℕ) → 0 < length values → labelled labels values ≡ said labels values
 said-some labels [] h = absurd (omega arith)
 said-some labels (n ∷ ns) h = refl
@@ -61,13 +63,16 @@ module _ (m a b c count n : ℕ) (e : n ≡ min count 3) where
   few : take n (a ∷ b ∷ c ∷ []) ≡ take count (a ∷ b ∷ c ∷ [])
   few = ap (λ (k : ℕ). take k (a ∷ b ∷ c ∷ [])) e ∙ take-least count (a ∷ b ∷ c ∷ [])
 
+  -- the values are the first `count` of the three
   pub values-are : take (1 + n - 1) (drop 1 (m ∷ a ∷ b ∷ c ∷ [])) ≡ take count (a ∷ b ∷ c ∷ [])
   values-are = ap (λ (k : ℕ). take k (a ∷ b ∷ c ∷ [])) (let k : 1 + n - 1 ≡ n = omega arith in k) ∙ few
 
+  -- a refusal's number, and the values behind it
   pub refused-are : take (1 + n) (m ∷ a ∷ b ∷ c ∷ []) ≡ m ∷ take count (a ∷ b ∷ c ∷ [])
   refused-are =
       ap (λ (k : ℕ). take k (m ∷ a ∷ b ∷ c ∷ [])) (let k : 1 + n ≡ suc n = omega arith in k) ∙ ap (λ (xs : List ℕ). m ∷ xs) few
 
+-- any kind from 2 on is a refusal
 pub told-refused : (kind number : ℕ) (values : List ℕ) → 1 < kind → toldBy kind number values ≡ refusal number values
 told-refused zero number values h = absurd (omega arith)
 told-refused (suc zero) number values h = absurd (omega arith)

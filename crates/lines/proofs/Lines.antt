@@ -20,25 +20,30 @@ use Rattle.lines.proofs.Shapes.{fill-placed}
 -- ---- the table
 
 module _ (name : List ℕ) (v : ℕ) where
+  -- a name without a shape is no entry
   pub lookup-one : (x : List ℕ) → lookup name v (x ∷ []) ≡ nowhere
   unfolding lookup
   lookup-one x = refl
 
+  -- nothing is in an empty table
   pub lookup-none : lookup name v [] ≡ nowhere
   unfolding lookup
   lookup-none = refl
 
   module _ (x shape : List ℕ) (rest : List (List ℕ)) where
+    -- the entry of that name
     pub lookup-same : same x name ≡ true → lookup name v (x ∷ shape ∷ rest) ≡ at v shape
     unfolding lookup
     lookup-same e = rw e
 
+    -- an entry of another name is passed by
     pub lookup-other : same x name ≡ false → lookup name v (x ∷ shape ∷ rest) ≡ lookup name (v + 1) rest
     unfolding lookup
     lookup-other e = rw e
 
 -- ---- a line that ends at its last byte
 
+-- an empty line is silent
 pub asks-empty : (table line : List ℕ) → length line ≡ 0 → asks table line ≡ silent
 unfolding asks
 asks-empty table [] h = refl
@@ -49,21 +54,25 @@ isSilent-of [] h = absurd (omega arith)
 isSilent-of (b ∷ bs) h = refl
 
 module _ (table line : List ℕ) (some : 0 < length line) where
+  -- so is a comment
   pub asks-comment : getD line 0 0 ≡ 35 → asks table line ≡ silent
   unfolding asks
   asks-comment e = rw (isSilent-of line some ∙ eq-eqb (getD line 0 0) 35 e)
 
   module _ (n : getD line 0 0 ≡ 35 → ⊥) where
+    -- a line that is too long is no call
     pub asks-long : roomLine < length line → asks table line ≡ unknown
     unfolding asks
     asks-long h = rw (isSilent-of line some ∙ ne-eqb (getD line 0 0) 35 n, lt-leb (length line) roomLine h)
 
+    -- any other line is what its tokens spell
     pub asks-spelled : length line ≤ roomLine → asks table line ≡ spelled table (cut 32 line)
     unfolding asks
     asks-spelled h = rw (isSilent-of line some ∙ ne-eqb (getD line 0 0) 35 n, le-leb (length line) roomLine h)
 
 -- ---- a carriage return at the end
 
+-- what a line asks for is asked of the line without its carriage return
 pub asked-bare : (table line : List ℕ) → asked table line ≡ asks table (bare line)
 unfolding asked
 asked-bare table line = refl
@@ -84,6 +93,7 @@ bare-same (b ∷ []) (suc n) h e = absurd (omega arith)
 bare-same (b ∷ c ∷ bs) zero h e = absurd (omega arith)
 bare-same (b ∷ c ∷ bs) (suc n) h e = ap (λ (l : List ℕ). b ∷ l) (bare-same (c ∷ bs) n (omega arith) e)
 
+-- nothing is taken off an empty line
 pub bare-empty : (line : List ℕ) → length line ≡ 0 → line ≡ bare line
 bare-empty [] h = refl
 bare-empty (b ∷ bs) h = absurd (omega arith)
@@ -126,14 +136,17 @@ asked-held table room wide line = go (decLe (length line) room)
 
 -- ---- the tokens
 
+-- a verb alone is no call
 pub spelled-verb : (table verb : List ℕ) → spelled table (verb ∷ []) ≡ unknown
 unfolding spelled
 spelled-verb table verb = refl
 
+-- a verb and one number or more
 pub spelled-call : (table verb t : List ℕ) (ts : List (List ℕ)) → spelled table (verb ∷ t ∷ ts) ≡ calledAt (lookup verb 0 (cut 32 table)) (t ∷ ts)
 unfolding spelled
 spelled-call table verb t ts = refl
 
+-- the verb up to the first space, and the tokens behind it
 pub spelled-called : (table line : List ℕ) (e : ℕ) → e ≡ 0 + length (upTo 32 line) → e < length line
     → spelled table (cut 32 line) ≡ calledAt (lookup (take e line) 0 (cut 32 table)) (cut 32 (drop (e + 1) line))
 spelled-called table line e ends more =

@@ -26,6 +26,7 @@ length-many : (n letter : ℕ) → length (many n letter) ≡ n
 length-many zero letter = refl
 length-many (suc n) letter = ap suc (length-many n letter)
 
+-- the items that are to come, and the letters
 pub unread-length : (left letter at : ℕ) (shape : List ℕ) → length (many left letter ++ drop at shape) ≡ left + (length shape - at)
 unread-length left letter at shape =
     length-append (many left letter) (drop at shape) ∙ ap₂ (λ (a b : ℕ). a + b) (length-many left letter) (length-drop at shape)
@@ -39,10 +40,12 @@ eqb-iff a b c d f g = go (ℕ-discrete a b)
     go (no n) = ne-eqb a b n ∙ sym (ne-eqb c d (λ e. n (g e)))
 
 module _ (left letter at : ℕ) (shape : List ℕ) where
+  -- while an item is to come the shape is not read
   pub read-item : (left ≡ 0 → ⊥) → eqb left 0 ≡ eqb (length (many left letter ++ drop at shape)) 0
   read-item n =
       eqb-iff left 0 (length (many left letter ++ drop at shape)) 0 (λ e. absurd (n e)) (λ e. omega (arith, unread-length left letter at shape))
 
+  -- with no item to come it is read at its last letter
   pub read-shape : left ≡ 0 → at ≤ length shape → eqb at (length shape) ≡ eqb (length (many left letter ++ drop at shape)) 0
   read-shape h k =
       eqb-iff at (length shape) (length (many left letter ++ drop at shape)) 0 (λ e. omega (arith, unread-length left letter at shape))
@@ -52,6 +55,7 @@ module _ (left letter at : ℕ) (shape : List ℕ) where
 pub none-left : {b : Bool} (u : List ℕ) → b ≡ eqb (length u) 0 → b ≡ true → length u ≡ 0
 none-left u e t = eqb-true (length u) 0 (sym e ∙ t)
 
+-- a letter is left
 pub some-left : {b : Bool} (u : List ℕ) → b ≡ eqb (length u) 0 → b ≡ false → 0 < length u
 some-left u e t = omega (arith, eqb-false (length u) 0 (sym e ∙ t))
 
@@ -63,10 +67,12 @@ most-le letter = go (eqb letter 119)
     go true = omega arith
     go false = omega arith
 
+-- the next letter is that of an item
 pub letter-item : (left letter : ℕ) (rest : List ℕ) → 0 < left → getD (many left letter ++ rest) 0 0 ≡ letter
 letter-item zero letter rest h = absurd (omega arith)
 letter-item (suc n) letter rest h = refl
 
+-- or the next one of the shape
 pub letter-shape : (left letter at : ℕ) (shape : List ℕ) → left ≡ 0 → getD (many left letter ++ drop at shape) 0 0 ≡ getD shape at 0
 letter-shape zero letter at shape h = getD-drop at shape 0 0 ∙ ap (λ (i : ℕ). getD shape i 0) (add-zero at)
 letter-shape (suc n) letter at shape h = absurd (omega arith)
@@ -75,6 +81,7 @@ item-bare : (wide : Bool) (x : ℕ) → unrolled (itemOf wide) x ≡ []
 item-bare true x = refl
 item-bare false x = refl
 
+-- behind an item there is one item less
 pub passed-item : (left : ℕ) (wide : Bool) (rest : List ℕ) (x : ℕ) → 0 < left
     → many (left - 1) (itemOf wide) ++ rest
     ≡ unrolled (getD (many left (itemOf wide) ++ rest) 0 0) x ++ drop 1 (many left (itemOf wide) ++ rest)
@@ -83,6 +90,7 @@ passed-item (suc n) wide rest x h =
     let e : suc n - 1 ≡ n = omega arith in
     ap (λ (k : ℕ). many k (itemOf wide) ++ rest) e ∙ sym (ap (λ (l : List ℕ). l ++ (many n (itemOf wide) ++ rest)) (item-bare wide x))
 
+-- behind a letter come its items
 pub passed-letter : (left letter at : ℕ) (shape : List ℕ) (x : ℕ) → left ≡ 0
     → unrolled (getD shape at 0) x ++ drop (at + 1) shape
     ≡ unrolled (getD (many left letter ++ drop at shape) 0 0) x ++ drop 1 (many left letter ++ drop at shape)
@@ -97,6 +105,7 @@ abbrev pub after : List ℕ → Option (List ℕ) → Option (List ℕ)
 after xs none = none
 after xs (some ys) = some (xs ++ ys)
 
+-- nothing was read before
 pub after-nothing : (ns : Option (List ℕ)) → after [] ns ≡ ns
 after-nothing none = refl
 after-nothing (some ys) = refl
@@ -124,6 +133,7 @@ unfolding fill
 fill-short [] h = absurd (omega arith)
 fill-short (l ∷ u) h = refl
 
+-- no letter and no token is left
 pub fill-done : (u : List ℕ) → length u ≡ 0 → fill u [] ≡ some []
 unfolding fill
 fill-done [] h = refl
@@ -131,15 +141,18 @@ fill-done (l ∷ u) h = absurd (omega arith)
 
 -- what a turn of the loop over the tokens finds, `xs` having been read before, for the token t and those behind it
 module _ (whole : Option (List ℕ)) (xs u t : List ℕ) (ts : List (List ℕ)) (inv : whole ≡ after xs (fill u (t ∷ ts))) where
+  -- a token too many
   pub turn-over : length u ≡ 0 → whole ≡ none
   turn-over h = inv ∙ ap (after xs) (fill-over u t ts h)
 
   module _ (some : 0 < length u) where
+    -- a token that its place does not hold
     pub turn-none : numeral (mostOf (getD u 0 0)) t ≡ Number.None → whole ≡ none
     turn-none e =
         inv ∙ ap (after xs) (fill-next u t ts some
         ∙ ap (λ (m : Number). before m (λ x. fill (unrolled (getD u 0 0) x ++ drop 1 u) ts)) e)
 
+    -- a number, and what is left behind it
     pub turn-next : (x : ℕ) (u' : List ℕ) → numeral (mostOf (getD u 0 0)) t ≡ Number.Value x → u' ≡ unrolled (getD u 0 0) x ++ drop 1 u
         → whole ≡ after (xs ++ (x ∷ [])) (fill u' ts)
     turn-next x u' e p =

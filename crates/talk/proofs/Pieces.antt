@@ -47,6 +47,7 @@ unfolding replies asked
 replies-more [] = refl
 replies-more (line ∷ lines) = ap (λ (l : List ℕ). reply (asked table line) ++ l) (replies-more lines)
 
+-- so a newline behind the input changes no answer
 pub talk-newline : (input : List ℕ) → talk (input ++ (10 ∷ [])) ≡ talk input
 talk-newline input = ap replies (cut-more input) ∙ replies-more (cut 10 input)
 
@@ -69,6 +70,7 @@ module _ (room : ℕ) (wide : 1 + roomLine < room) where
     abbrev seg : List ℕ
     seg = upTo 10 (drop from input)
 
+    -- what is held has no newline
     pub held-whole : Whole 10 (take room (begun ++ seg))
     held-whole = whole-take 10 room (begun ++ seg) (whole-join 10 begun seg w (upTo-whole 10 (drop from input)))
 
@@ -98,6 +100,7 @@ module _ (room : ℕ) (wide : 1 + roomLine < room) where
     -- a step, by what `take_line` ensures
     module _ {ended : Bool} {next : ℕ} {held : List ℕ} (is : ended ≡ ltb (from + length (upTo 10 (drop from input))) (length input))
         (goes : next ≡ min (length input) (from + length (upTo 10 (drop from input)) + 1)) (holds : held ≡ take room (begun ++ upTo 10 (drop from input))) where
+      -- the line goes on: no text, and its bytes are held
       pub step-stays : ended ≡ false → Stepped begun (drop from input) [] held (drop next input)
       step-stays e =
           let far = ltb-false (from + length seg) (length input) (sym is ∙ e) in
@@ -108,6 +111,7 @@ module _ (room : ℕ) (wide : 1 + roomLine < room) where
             whole = subst (Whole 10) (sym holds) held-whole;
           }
 
+      -- the line ends: its answer, and nothing is held
       pub step-ends : ended ≡ true → (text : List ℕ) → text ≡ reply (asked table held) → Stepped begun (drop from input) text [] (drop next input)
       step-ends e text t =
           let near = ltb-true (from + length seg) (length input) (sym is ∙ e) in
