@@ -49,8 +49,8 @@ stray-cell n y i = rw (cell-strays y n i) (go (leb n i))
     go false = refl
 
 -- what rule 8 asks of one cell
-pub placed-cell : (n stuck levels i : ℕ) → (misplaced n stuck levels i ≡ false) ↔ ((n ≤ i → cell stuck i ≡ 0) × (cell levels i ≤ cell stuck i))
-placed-cell n stuck levels i = (λ e. to e (cell-cases stuck i) (cell-cases levels i), λ h. from h (leb n i) refl (cell-cases stuck i) (cell-cases levels i))
+pub not-misplaced : (n stuck levels i : ℕ) → (misplaced n stuck levels i ≡ false) ↔ ((n ≤ i → cell stuck i ≡ 0) × (cell levels i ≤ cell stuck i))
+not-misplaced n stuck levels i = (λ e. to e (cell-cases stuck i) (cell-cases levels i), λ h. from h (leb n i) refl (cell-cases stuck i) (cell-cases levels i))
   where
     to : misplaced n stuck levels i ≡ false → (cell stuck i ≡ 0) ⊎ (cell stuck i ≡ 1) → (cell levels i ≡ 0) ⊎ (cell levels i ≡ 1)
         → (n ≤ i → cell stuck i ≡ 0) × (cell levels i ≤ cell stuck i)
@@ -69,7 +69,7 @@ placed-cell n stuck levels i = (λ e. to e (cell-cases stuck i) (cell-cases leve
 pub levels-inside : (w n stuck levels : ℕ) → levels < 2 ^ w → first w (misplaced n stuck levels) ≡ nowhere → bitAnd levels stuck ≡ levels
 levels-inside w n stuck levels h e =
     ext w (lt-of-le-of-lt (and-le-l levels stuck) h) h
-    (λ i l. cell-and levels stuck i ∙ omega (arith, placed-cell n stuck levels i .0 (first-all _ w i e l) .1))
+    (λ i l. cell-and levels stuck i ∙ omega (arith, not-misplaced n stuck levels i .0 (first-all _ w i e l) .1))
 
 -- 11: "a cap of 1 to 8"
 pub capped-true : (cap : ℕ) → (capped cap ≡ true) ↔ ((1 ≤ cap) × (cap ≤ mostCap))

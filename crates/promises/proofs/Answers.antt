@@ -20,7 +20,7 @@ use Rattle.words.proofs.Firsts.{none-below}
 use Rattle.rules.proofs.Rules.{tells, ofSheet, past, past-at}
 use Rattle.rules.proofs.Chains.{then-2, then-3}
 use Rattle.sheet.proofs.Verdicts.{admitted-next, past-judged}
-use Rattle.jobs.proofs.Breaches.{placed-cell, capped-true}
+use Rattle.jobs.proofs.Breaches.{not-misplaced, capped-true}
 
 -- ---- good arguments
 
@@ -28,7 +28,7 @@ use Rattle.jobs.proofs.Breaches.{placed-cell, capped-true}
 pub stuck-passes : (s : Sheet) (stuck levels : ℕ) → Stuck s stuck levels → first width (misplaced (s .n) stuck levels) ≡ nowhere
 stuck-passes s stuck levels h =
     none-below _ width
-    (λ i l. placed-cell (s .n) stuck levels i .1 (cell-above (h .cells) i, omega (arith, cell-and levels stuck i, ap (λ (x : ℕ). cell x i) (h .inside))))
+    (λ i l. not-misplaced (s .n) stuck levels i .1 (cell-above (h .cells) i, omega (arith, cell-and levels stuck i, ap (λ (x : ℕ). cell x i) (h .inside))))
 
 -- a word over n cells passes rule 10
 pub word-passes : (s : Sheet) (y : ℕ) → y < 2 ^ s .n → first width (strayCell (s .n) y) ≡ nowhere
