@@ -14,7 +14,7 @@ use borrow.Author.Tests.{eq-eqb, ne-eqb, le-leb, lt-leb}
 use Rattle.text.specs.Tokens.{upTo, cut, same}
 use Rattle.text.proofs.Tokens.{cut-at, cut-first}
 use Rattle.lines.specs.Shapes.{fill, Placed}
-use Rattle.lines.specs.Lines.{silent, unknown, call, Found, nowhere, at, lookup, shapeAt, called, calledAt, spelled, isSilent, asks, bare, asked, roomLine}
+use Rattle.lines.specs.Lines.{silent, unknown, call, Found, nowhere, at, lookup, shapeAt, called, knownAt, spelled, isSilent, comes, bare, calling, asked, storing, askedIn, roomLine}
 use Rattle.lines.proofs.Shapes.{fill-placed}
 
 -- ---- the table
@@ -39,34 +39,39 @@ module _ (name : List ℕ) (v : ℕ) where
 
 -- ---- a line that ends at its last byte
 
-pub asks-empty : (table line : List ℕ) → length line ≡ 0 → asks table line ≡ silent
-unfolding asks
-asks-empty table [] h = refl
-asks-empty table (b ∷ bs) h = absurd (omega arith)
-
 isSilent-of : (line : List ℕ) → 0 < length line → isSilent line ≡ eqb (getD line 0 0) 35
 isSilent-of [] h = absurd (omega arith)
 isSilent-of (b ∷ bs) h = refl
 
-module _ (table line : List ℕ) (some : 0 < length line) where
-  pub asks-comment : getD line 0 0 ≡ 35 → asks table line ≡ silent
-  unfolding asks
-  asks-comment e = rw (isSilent-of line some ∙ eq-eqb (getD line 0 0) 35 e)
+module _ {A : Type 0} (other : A) (known : ℕ → List ℕ → List (List ℕ) → A) (nothing : A) where
+  pub comes-empty : (table line : List ℕ) → length line ≡ 0 → comes other known nothing table line ≡ nothing
+  unfolding comes
+  comes-empty table [] h = refl
+  comes-empty table (b ∷ bs) h = absurd (omega arith)
 
-  module _ (n : getD line 0 0 ≡ 35 → ⊥) where
-    pub asks-long : roomLine < length line → asks table line ≡ unknown
-    unfolding asks
-    asks-long h = rw (isSilent-of line some ∙ ne-eqb (getD line 0 0) 35 n, lt-leb (length line) roomLine h)
+  module _ (table line : List ℕ) (some : 0 < length line) where
+    pub comes-comment : getD line 0 0 ≡ 35 → comes other known nothing table line ≡ nothing
+    unfolding comes
+    comes-comment e = rw (isSilent-of line some ∙ eq-eqb (getD line 0 0) 35 e)
 
-    pub asks-spelled : length line ≤ roomLine → asks table line ≡ spelled table (cut 32 line)
-    unfolding asks
-    asks-spelled h = rw (isSilent-of line some ∙ ne-eqb (getD line 0 0) 35 n, le-leb (length line) roomLine h)
+    module _ (n : getD line 0 0 ≡ 35 → ⊥) where
+      pub comes-long : roomLine < length line → comes other known nothing table line ≡ other
+      unfolding comes
+      comes-long h = rw (isSilent-of line some ∙ ne-eqb (getD line 0 0) 35 n, lt-leb (length line) roomLine h)
+
+      pub comes-spelled : length line ≤ roomLine → comes other known nothing table line ≡ spelled other known table (cut 32 line)
+      unfolding comes
+      comes-spelled h = rw (isSilent-of line some ∙ ne-eqb (getD line 0 0) 35 n, le-leb (length line) roomLine h)
 
 -- ---- a carriage return at the end
 
-pub asked-bare : (table line : List ℕ) → asked table line ≡ asks table (bare line)
+pub asked-bare : (table line : List ℕ) → asked table line ≡ comes unknown calling silent table (bare line)
 unfolding asked
 asked-bare table line = refl
+
+pub askedIn-bare : (table line room : List ℕ) → askedIn table line room ≡ comes room (storing room) room table (bare line)
+unfolding askedIn
+askedIn-bare table line room = refl
 
 -- the last byte, at n, is a carriage return
 pub bare-return : (line : List ℕ) (n : ℕ) → length line ≡ suc n → getD line n 0 ≡ 13 → take n line ≡ bare line
@@ -107,13 +112,13 @@ asked-far table line other h k same = asked-bare table line ∙ go (ℕ-discrete
     long : (l : List ℕ) → 1 + roomLine < length l → roomLine < length (bare l)
     long l j = omega (arith, bare-length l)
 
-    go : Dec (getD line 0 0 ≡ 35) → asks table (bare line) ≡ asks table (bare other)
+    go : Dec (getD line 0 0 ≡ 35) → comes unknown calling silent table (bare line) ≡ comes unknown calling silent table (bare other)
     go (yes e) =
-        asks-comment table (bare line) (omega (arith, long line h)) (bare-first line (omega arith) ∙ e)
-        ∙ sym (asks-comment table (bare other) (omega (arith, long other k)) (bare-first other (omega arith) ∙ sym same ∙ e))
+        comes-comment unknown calling silent table (bare line) (omega (arith, long line h)) (bare-first line (omega arith) ∙ e)
+        ∙ sym (comes-comment unknown calling silent table (bare other) (omega (arith, long other k)) (bare-first other (omega arith) ∙ sym same ∙ e))
     go (no n) =
-        asks-long table (bare line) (omega (arith, long line h)) (λ e. n (sym (bare-first line (omega arith)) ∙ e)) (long line h)
-        ∙ sym (asks-long table (bare other) (omega (arith, long other k)) (λ e. n (same ∙ sym (bare-first other (omega arith)) ∙ e)) (long other k))
+        comes-long unknown calling silent table (bare line) (omega (arith, long line h)) (λ e. n (sym (bare-first line (omega arith)) ∙ e)) (long line h)
+        ∙ sym (comes-long unknown calling silent table (bare other) (omega (arith, long other k)) (λ e. n (same ∙ sym (bare-first other (omega arith)) ∙ e)) (long other k))
 
 -- a line that is clipped at a room of two bytes more than a call may have asks for what the whole line does
 pub asked-held : (table : List ℕ) (room : ℕ) → 1 + roomLine < room → (line : List ℕ) → asked table (take room line) ≡ asked table line
@@ -126,24 +131,26 @@ asked-held table room wide line = go (decLe (length line) room)
 
 -- ---- the tokens
 
-pub spelled-verb : (table verb : List ℕ) → spelled table (verb ∷ []) ≡ unknown
-unfolding spelled
-spelled-verb table verb = refl
+module _ {A : Type 0} (other : A) (known : ℕ → List ℕ → List (List ℕ) → A) where
+  pub spelled-verb : (table verb : List ℕ) → spelled other known table (verb ∷ []) ≡ other
+  unfolding spelled
+  spelled-verb table verb = refl
 
-pub spelled-call : (table verb t : List ℕ) (ts : List (List ℕ)) → spelled table (verb ∷ t ∷ ts) ≡ calledAt (lookup verb 0 (cut 32 table)) (t ∷ ts)
-unfolding spelled
-spelled-call table verb t ts = refl
+  spelled-call : (table verb t : List ℕ) (ts : List (List ℕ))
+      → spelled other known table (verb ∷ t ∷ ts) ≡ knownAt other known (lookup verb 0 (cut 32 table)) (t ∷ ts)
+  unfolding spelled
+  spelled-call table verb t ts = refl
 
-pub spelled-called : (table line : List ℕ) (e : ℕ) → e ≡ 0 + length (upTo 32 line) → e < length line
-    → spelled table (cut 32 line) ≡ calledAt (lookup (take e line) 0 (cut 32 table)) (cut 32 (drop (e + 1) line))
-spelled-called table line e ends more =
-    let next = cut-at 32 line 0 e (omega arith) ends more in
-    let rest = drop (e + 1) line in
-    let first = cut-first 32 rest 0 (0 + length (upTo 32 rest)) (omega arith) refl in
-    ap (spelled table) (next ∙ ap (λ (ts : List (List ℕ)). take (e - 0) line ∷ ts) (first .1))
-    ∙ spelled-call table (take (e - 0) line) (take (0 + length (upTo 32 rest) - 0) rest) (first .0)
-    ∙ ap (calledAt (lookup (take (e - 0) line) 0 (cut 32 table))) (sym (first .1))
-    ∙ ap (λ (n : ℕ). calledAt (lookup (take n line) 0 (cut 32 table)) (cut 32 rest)) (let k : e - 0 ≡ e = omega arith in k)
+  pub spelled-called : (table line : List ℕ) (e : ℕ) → e ≡ 0 + length (upTo 32 line) → e < length line
+      → spelled other known table (cut 32 line) ≡ knownAt other known (lookup (take e line) 0 (cut 32 table)) (cut 32 (drop (e + 1) line))
+  spelled-called table line e ends more =
+      let next = cut-at 32 line 0 e (omega arith) ends more in
+      let rest = drop (e + 1) line in
+      let first = cut-first 32 rest 0 (0 + length (upTo 32 rest)) (omega arith) refl in
+      ap (spelled other known table) (next ∙ ap (λ (ts : List (List ℕ)). take (e - 0) line ∷ ts) (first .1))
+      ∙ spelled-call table (take (e - 0) line) (take (0 + length (upTo 32 rest) - 0) rest) (first .0)
+      ∙ ap (knownAt other known (lookup (take (e - 0) line) 0 (cut 32 table))) (sym (first .1))
+      ∙ ap (λ (n : ℕ). knownAt other known (lookup (take n line) 0 (cut 32 table)) (cut 32 rest)) (let k : e - 0 ≡ e = omega arith in k)
 
 -- ---- the numbers of a call stand where the shape of its verb has them
 
@@ -177,13 +184,13 @@ unknown-not e = let z : _≡_ {A = ℕ} 0 1 = cc in omega arith
 silent-not : {v : ℕ} {ns : List ℕ} → silent ≡ call v ns → ⊥
 silent-not e = let z : _≡_ {A = ℕ} 0 1 = cc in omega arith
 
-spelled-placed : (table : List ℕ) (ts : List (List ℕ)) (v : ℕ) (ns : List ℕ) → spelled table ts ≡ call v ns → Placed (shapeAt (cut 32 table) v) 0 ns
+spelled-placed : (table : List ℕ) (ts : List (List ℕ)) (v : ℕ) (ns : List ℕ) → spelled unknown calling table ts ≡ call v ns → Placed (shapeAt (cut 32 table) v) 0 ns
 unfolding spelled
 spelled-placed table [] v ns e = absurd (unknown-not e)
 spelled-placed table (x ∷ []) v ns e = absurd (unknown-not e)
 spelled-placed table (x ∷ t ∷ ts) v ns e = go (lookup x 0 (cut 32 table)) refl e
   where
-    go : (f : Found) → lookup x 0 (cut 32 table) ≡ f → calledAt f (t ∷ ts) ≡ call v ns → Placed (shapeAt (cut 32 table) v) 0 ns
+    go : (f : Found) → lookup x 0 (cut 32 table) ≡ f → knownAt unknown calling f (t ∷ ts) ≡ call v ns → Placed (shapeAt (cut 32 table) v) 0 ns
     go nowhere p k = absurd (unknown-not k)
     go (at u shape) p k =
         let c = called-some u v (fill shape (t ∷ ts)) ns k in
@@ -191,15 +198,15 @@ spelled-placed table (x ∷ t ∷ ts) v ns e = go (lookup x 0 (cut 32 table)) re
         let same : shapeAt (cut 32 table) v ≡ shape = ap (shapeAt (cut 32 table)) (let z : v ≡ u - 0 = omega (arith, c .0) in z) ∙ found .1 in
         subst (λ (s : List ℕ). Placed s 0 ns) (sym same) (fill-placed shape (t ∷ ts) ns (c .1))
 
-asks-placed : (table line : List ℕ) (v : ℕ) (ns : List ℕ) → asks table line ≡ call v ns → Placed (shapeAt (cut 32 table) v) 0 ns
-unfolding asks
-asks-placed table line v ns e = go (isSilent line) (leb (length line) roomLine) e
+comes-placed : (table line : List ℕ) (v : ℕ) (ns : List ℕ) → comes unknown calling silent table line ≡ call v ns → Placed (shapeAt (cut 32 table) v) 0 ns
+unfolding comes
+comes-placed table line v ns e = go (isSilent line) (leb (length line) roomLine) e
   where
-    go : (a b : Bool) → cond a silent (cond b (spelled table (cut 32 line)) unknown) ≡ call v ns → Placed (shapeAt (cut 32 table) v) 0 ns
+    go : (a b : Bool) → cond a silent (cond b (spelled unknown calling table (cut 32 line)) unknown) ≡ call v ns → Placed (shapeAt (cut 32 table) v) 0 ns
     go true b k = absurd (silent-not k)
     go false true k = spelled-placed table (cut 32 line) v ns k
     go false false k = absurd (unknown-not k)
 
 -- of a whole line
 pub asked-placed : (table line : List ℕ) (v : ℕ) (ns : List ℕ) → asked table line ≡ call v ns → Placed (shapeAt (cut 32 table) v) 0 ns
-asked-placed table line v ns e = asks-placed table (bare line) v ns (sym (asked-bare table line) ∙ e)
+asked-placed table line v ns e = comes-placed table (bare line) v ns (sym (asked-bare table line) ∙ e)

@@ -18,7 +18,7 @@ use Rattle.text.specs.declared.Number.the-variants as Number
 use Rattle.text.specs.Numerals.{numeral}
 use Rattle.text.proofs.Numerals.{numeral-most}
 use Rattle.paper.specs.Words.{width}
-use Rattle.lines.specs.Shapes.{mostOf, itemsOf, itemOf, many, unrolled, joined, before, fill, Placed}
+use Rattle.lines.specs.Shapes.{mostOf, itemsOf, itemOf, many, unrolled, joined, before, fill, stored, filled, Placed}
 
 -- ---- the letters that are to come
 
@@ -147,6 +147,36 @@ module _ (whole : Option (List ℕ)) (xs u t : List ℕ) (ts : List (List ℕ)) 
         ∙ ap (λ (m : Number). before m (λ x. fill (unrolled (getD u 0 0) x ++ drop 1 u) ts)) e
         ∙ ap (λ (s : List ℕ). joined x (fill s ts)) (sym p))
         ∙ after-one xs x (fill u' ts)
+
+-- what a turn leaves in the room, the numbers from place i on being to come
+pub filled-over : (i : ℕ) (room u t : List ℕ) (ts : List (List ℕ)) → length u ≡ 0 → filled i room u (t ∷ ts) ≡ room
+unfolding filled
+filled-over i room [] t ts h = refl
+filled-over i room (l ∷ u) t ts h = absurd (omega arith)
+
+filled-next : (i : ℕ) (room u t : List ℕ) (ts : List (List ℕ)) → 0 < length u
+    → filled i room u (t ∷ ts)
+    ≡ stored (numeral (mostOf (getD u 0 0)) t) i room (λ x next. filled (i + 1) next (unrolled (getD u 0 0) x ++ drop 1 u) ts)
+unfolding filled
+filled-next i room [] t ts h = absurd (omega arith)
+filled-next i room (l ∷ u) t ts h = refl
+
+module _ (i : ℕ) (room u t : List ℕ) (ts : List (List ℕ)) where
+  module _ (some : 0 < length u) where
+    pub filled-none : numeral (mostOf (getD u 0 0)) t ≡ Number.None → filled i room u (t ∷ ts) ≡ room
+    filled-none e =
+        filled-next i room u t ts some ∙ ap (λ (m : Number). stored m i room (λ x next. filled (i + 1) next (unrolled (getD u 0 0) x ++ drop 1 u) ts)) e
+
+    pub filled-one : (x : ℕ) (u' : List ℕ) → numeral (mostOf (getD u 0 0)) t ≡ Number.Value x → u' ≡ unrolled (getD u 0 0) x ++ drop 1 u
+        → filled i room u (t ∷ ts) ≡ filled (i + 1) (set room i x) u' ts
+    filled-one x u' e p =
+        filled-next i room u t ts some ∙ ap (λ (m : Number). stored m i room (λ x next. filled (i + 1) next (unrolled (getD u 0 0) x ++ drop 1 u) ts)) e
+        ∙ ap (λ (s : List ℕ). filled (i + 1) (set room i x) s ts) (sym p)
+
+pub filled-end : (i : ℕ) (room u : List ℕ) → filled i room u [] ≡ room
+unfolding filled
+filled-end i room [] = refl
+filled-end i room (l ∷ u) = refl
 
 -- the numbers with x stored behind them
 pub stores : (numbers : List ℕ) (count x : ℕ) → count < length numbers → take (count + 1) (set numbers count x) ≡ take count numbers ++ (x ∷ [])

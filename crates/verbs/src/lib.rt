@@ -21,7 +21,7 @@ ghost use Rattle.text.specs.Tokens.{cut};
 ghost use Rattle.text.specs.Puts.{Put};
 ghost use Rattle.told.specs.Telling.{tells};
 ghost use Rattle.lines.specs.Shapes.{Placed};
-ghost use Rattle.lines.specs.Lines.{asked, meant, used, shapeAt, roomLine};
+ghost use Rattle.lines.specs.Lines.{asked, askedIn, meant, used, shapeAt, roomLine};
 ghost use Rattle.verbs.specs.Replies.{table, sheetIn, arg, replied, roomReply};
 
 // `admit SHEET`.
@@ -99,6 +99,7 @@ pub fn ask(line: &[u8], ns: &mut [Word]) -> Line
     requires { ⌜ roomLine ≤ 2 * length (now ns) ⌝ }
     ensures { λ r. ⌜ meant r (now (ns .exit)) ≡ asked table (now (line .entry)) ⌝ }
     ensures { λ r. ⌜ used r ≤ length (now (ns .exit)) ⌝ }
+    ensures { λ _. ⌜ now (ns .exit) ≡ askedIn table (now (line .entry)) (now (ns .entry)) ⌝ }
 {
     parse(
         line,

@@ -20,17 +20,17 @@ means : (c : tie.After-ask) (r : Line) → c .ask .result ≡ r → meant r (c .
 means c r e = ap (λ (x : Line). meant x (c .ask .last .1 .0)) (sym e) ∙ c .ask .ensures .0
 
 returns : tie.Need-returns
-returns c = (put-text (ap reply (means (c .before .before .before .before) Line.Silent (c .enum-told .given .1))) (put-nothing (c .before .before .before .before .before .before .before .before .before .args .out .now) 0), omega arith)
+returns c = (put-text (ap reply (means (c .before .before .before .before) Line.Silent (c .enum-told .given .1))) (put-nothing (c .before .before .before .before .before .before .before .before .before .args .out .now) 0), (omega arith, c .before .before .before .before .ask .ensures .1 .1))
 
 returns-2 : tie.Need-returns-2
 returns-2 c = (
   put-text (ap reply (means (c .before .before .before .before .before .before .before .before .before) Line.Unknown (c .before .before .before .before .before .enum-told2 .given .1))) (c .before .before .put .ensures),
-  omega (arith, c .before .before .put .ensures .ends),
+  (omega (arith, c .before .before .put .ensures .ends), c .before .before .before .before .before .before .before .before .before .ask .ensures .1 .1),
 )
 
 -- the numbers of the call lie within the room
 count-in : (c : tie.After-known-told) → c .before .verb .given .0 .1 .0 ≤ length (c .before .before .before .before .before .ask .last .1 .0)
-count-in c = subst (λ (r : Line). used r ≤ length (c .before .before .before .before .before .ask .last .1 .0)) (c .before .verb .given .1) (c .before .before .before .before .before .ask .ensures .1)
+count-in c = subst (λ (r : Line). used r ≤ length (c .before .before .before .before .before .ask .last .1 .0)) (c .before .verb .given .1) (c .before .before .before .before .before .ask .ensures .1 .0)
 
 slice-reshare-prefix-reply : tie.Need-slice-reshare-prefix-reply
 slice-reshare-prefix-reply c = count-in c
@@ -56,7 +56,7 @@ returns-3 c =
     let g = c .before .before .before .before .before .before .before .before .before .before .before .verb .given in
     let ns = c .before .before .before .before .before .before .before .before .before .before .before .before .before .before .before .ask .last .1 .0 in (
       put-text (ap reply (means (c .before .before .before .before .before .before .before .before .before .before .before .before .before .before .before) (Line.Call (g .0 .0) (g .0 .1 .0)) (g .1))) (put-join (c .before .before .before .before .before .before .before .reply .ensures .0) (c .before .before .put2 .ensures)),
-      omega (arith, c .before .before .before .before .before .before .before .reply .ensures .1, c .before .before .put2 .ensures .ends, length-take (g .0 .1 .0) ns, c .before .before .before .before .before .before .before .before .before .before .before .before .before .before .before .ask .kept, c .before .before .before .before .before .before .before .before .before .before .before .before .before .before .before .before .before .before .before .before .pre),
+      (omega (arith, c .before .before .before .before .before .before .before .reply .ensures .1, c .before .before .put2 .ensures .ends, length-take (g .0 .1 .0) ns, c .before .before .before .before .before .before .before .before .before .before .before .before .before .before .before .ask .kept, c .before .before .before .before .before .before .before .before .before .before .before .before .before .before .before .before .before .before .before .before .pre), c .before .before .before .before .before .before .before .before .before .before .before .before .before .before .before .ask .ensures .1 .1),
     )
 
 pub answer-spec : {M : Type 1} → statement M

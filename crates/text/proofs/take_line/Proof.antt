@@ -31,7 +31,10 @@ returns c =
         c .least .ensures ∙ ap (λ (k : ℕ). min (length input) (k + 1)) (e .ensures),
         (
           omega arith,
-          c .before .before .before .append .ensures .1 ∙ ap (λ (l : List ℕ). take (length (a .line .now)) (take (a .held) (a .line .now) ++ l)) (token-upTo 10 input (a .from) (e .result) (e .ensures)),
+          (
+            c .before .before .before .append .ensures .1 .0 ∙ ap (λ (l : List ℕ). take (length (a .line .now)) (take (a .held) (a .line .now) ++ l)) (token-upTo 10 input (a .from) (e .result) (e .ensures)),
+            c .before .before .before .append .ensures .1 .1,
+          ),
         ),
       ),
     )

@@ -4,8 +4,8 @@ use mathlib.Core.Path.{sym, ap, _∙_}
 use borrow.Author.Needs.{needs}
 use native.Mathlib.Omega.{arith}
 use lib.Seq.{length-take-le}
-use Rattle.lines.specs.Lines.{asks}
-use Rattle.lines.proofs.Lines.{asked-bare}
+use Rattle.lines.specs.Lines.{silent, unknown, comes, calling, storing}
+use Rattle.lines.proofs.Lines.{asked-bare, askedIn-bare}
 use Rattle.lines.proofs.call.parse.Statement.{statement}
 use Rattle.lines.proofs.call.parse.Tie as tie
 
@@ -16,7 +16,11 @@ returns : tie.Need-returns
 returns c =
     let a = c .before .before .before .before .before .before .before .before .before .args in
     let p = c .before .before .parse-bare in
-    (p .ensures .0 ∙ ap (asks (a .table .now)) (c .before .before .before .before .before .bare-end .ensures .0) ∙ sym (asked-bare (a .table .now) (a .line .now)), p .ensures .1)
+    let end = c .before .before .before .before .before .bare-end .ensures .0 in
+    let room = a .numbers .now in (
+      p .ensures .0 ∙ ap (comes unknown calling silent (a .table .now)) end ∙ sym (asked-bare (a .table .now) (a .line .now)),
+      (p .ensures .1 .0, p .ensures .1 .1 ∙ ap (comes room (storing room) room (a .table .now)) end ∙ sym (askedIn-bare (a .table .now) (a .line .now) room)),
+    )
 
 pub parse-spec : {M : Type 1} → statement M
 parse-spec =
