@@ -1,4 +1,3 @@
--- The laws that the functions' proofs cite, and those that say that it does not matter how the input is cut into pieces.
-pub mod Puts
-pub mod Pieces
-mod Examples
+-- How long the rooms are.
+-- The rooms' own functions cite it.
+mod Rooms

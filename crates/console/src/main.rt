@@ -1,196 +1,121 @@
 // The console: reads calls from standard input, one a line, and writes one answer a line to standard output.
-// What a line means and what an answer looks like is in `lines`; what a call answers is in `store`.
-use libc::STDIN_FILENO;
-use libc::STDOUT_FILENO;
-use lines::Call;
-use lines::Sheet;
+// What a line is answered is in `talk`; here are the rooms, the pieces of the input, and the order of reads and writes.
+use paper::Word;
+use streams::Got;
+use streams::end_well;
+use streams::read_piece;
+use streams::write_all;
+use talk::take_step;
 ghost use Prim.Native.Nat.{_+_, _*_, _≤_, _<_};
 ghost use mathlib.Core.Path.{_≡_};
+ghost use mathlib.Core.Bool.{true};
+ghost use mathlib.Core.List.{[]};
 ghost use lib.ListN.{length, take};
-ghost use Rattle.paper.specs.Sheet.{admits};
-ghost use Rattle.paper.specs.Writing.{writes};
-ghost use Rattle.paper.specs.Reading.{reads};
-ghost use Rattle.paper.specs.Plate.{measuresD0, measuresD1};
-ghost use Rattle.lines.specs.declared.call.Verb.the-variants as Verb;
-ghost use Rattle.lines.specs.Calls.{asked, roomLine};
-ghost use Rattle.lines.specs.Answers.{spoken, roomAnswer, Put};
-ghost use Rattle.lines.specs.Rooms.{roomNumbers, lent, Held};
-ghost use Rattle.console.specs.Replies.{replied, replies, begunAfter};
+ghost use Rattle.text.specs.Tokens.{Whole};
+ghost use Rattle.lines.specs.Lines.{roomLine};
+ghost use Rattle.talk.specs.Talk.{Rooms, Answered};
 
-// What a piece of the input leaves: how many bytes are held of a line that has not ended, and how many bytes the answers have.
-struct Carried {
+// Writes an answer, and says whether it was written.
+fn write_answer(bytes: &[u8]) -> bool {
+    write_all(bytes, b"console: standard output")
+}
+
+// What a piece of the input leaves: whether all answers were written, and how many bytes are held.
+struct Piece {
+    written: bool,
     held: usize,
-    at: usize,
 }
 
-// Answers `admit`.
-fn admit(sheet: Sheet, numbers: &[u32], out: &mut [u8], at: usize) -> usize
-    requires { ⌜ Held sheet (now numbers) ⌝ }
-    requires { ⌜ at + roomAnswer ≤ length (now out) ⌝ }
-    ensures { λ r. ⌜ Put (now (out .entry)) at (spoken Verb.Admit (admits (lent sheet (now (numbers .entry))))) r (now (out .exit)) ⌝ }
-    ensures { λ r. ⌜ r ≤ at + roomAnswer ⌝ }
-{
-    let rows = lines::rows_of(sheet, numbers);
-    let answer = store::admit(sheet.n, sheet.k, sheet.l, rows);
-    lines::say_admission(out, at, answer)
-}
-
-// Answers `write`.
-fn write(
-    sheet: Sheet,
-    numbers: &[u32],
-    message: u32,
-    stuck: u32,
-    levels: u32,
-    out: &mut [u8],
-    at: usize,
-) -> usize
-    requires { ⌜ Held sheet (now numbers) ⌝ }
-    requires { ⌜ at + roomAnswer ≤ length (now out) ⌝ }
-    ensures { λ r. ⌜ Put (now (out .entry)) at (spoken Verb.Write (writes (lent sheet (now (numbers .entry))) message stuck levels)) r (now (out .exit)) ⌝ }
-    ensures { λ r. ⌜ r ≤ at + roomAnswer ⌝ }
-{
-    let rows = lines::rows_of(sheet, numbers);
-    let answer = store::write(sheet.n, sheet.k, sheet.l, rows, message, stuck, levels);
-    lines::say_written(out, at, answer)
-}
-
-// Answers `read`.
-fn read(sheet: Sheet, numbers: &[u32], y: u32, radius: u32, out: &mut [u8], at: usize) -> usize
-    requires { ⌜ Held sheet (now numbers) ⌝ }
-    requires { ⌜ at + roomAnswer ≤ length (now out) ⌝ }
-    ensures { λ r. ⌜ Put (now (out .entry)) at (spoken Verb.Read (reads (lent sheet (now (numbers .entry))) y radius)) r (now (out .exit)) ⌝ }
-    ensures { λ r. ⌜ r ≤ at + roomAnswer ⌝ }
-{
-    let rows = lines::rows_of(sheet, numbers);
-    let answer = store::read(sheet.n, sheet.k, sheet.l, rows, y, radius);
-    lines::say_reading(out, at, answer)
-}
-
-// Answers `d0`.
-fn d0(sheet: Sheet, numbers: &[u32], cap: u32, out: &mut [u8], at: usize) -> usize
-    requires { ⌜ Held sheet (now numbers) ⌝ }
-    requires { ⌜ at + roomAnswer ≤ length (now out) ⌝ }
-    ensures { λ r. ⌜ Put (now (out .entry)) at (spoken Verb.D0 (measuresD0 (lent sheet (now (numbers .entry))) cap)) r (now (out .exit)) ⌝ }
-    ensures { λ r. ⌜ r ≤ at + roomAnswer ⌝ }
-{
-    let rows = lines::rows_of(sheet, numbers);
-    let answer = store::measure_d0(sheet.n, sheet.k, sheet.l, rows, cap);
-    lines::say_d0(out, at, answer)
-}
-
-// Answers `d1`.
-fn d1(sheet: Sheet, numbers: &[u32], cap: u32, out: &mut [u8], at: usize) -> usize
-    requires { ⌜ Held sheet (now numbers) ⌝ }
-    requires { ⌜ at + roomAnswer ≤ length (now out) ⌝ }
-    ensures { λ r. ⌜ Put (now (out .entry)) at (spoken Verb.D1 (measuresD1 (lent sheet (now (numbers .entry))) cap)) r (now (out .exit)) ⌝ }
-    ensures { λ r. ⌜ r ≤ at + roomAnswer ⌝ }
-{
-    let rows = lines::rows_of(sheet, numbers);
-    let answer = store::measure_d1(sheet.n, sheet.k, sheet.l, rows, cap);
-    lines::say_d1(out, at, answer)
-}
-
-// Puts the answer to a line, if it gets one, behind the answers in `out`.
-fn answer(line: &[u8], numbers: &mut [u32], out: &mut [u8], at: usize) -> usize
-    requires { ⌜ roomNumbers ≤ length (now numbers) ⌝ }
-    requires { ⌜ at + roomAnswer ≤ length (now out) ⌝ }
-    ensures { λ r. ⌜ Put (now (out .entry)) at (replied (asked (now (line .entry)))) r (now (out .exit)) ⌝ }
-    ensures { λ r. ⌜ r ≤ at + roomAnswer ⌝ }
-{
-    match lines::parse(line, numbers) {
-        Call::Admit(sheet) => admit(sheet, numbers, out, at),
-        Call::Write(sheet, message, stuck, levels) => write(
-            sheet,
-            numbers,
-            message,
-            stuck,
-            levels,
-            out,
-            at,
-        ),
-        Call::Read(sheet, y, radius) => read(sheet, numbers, y, radius, out, at),
-        Call::D0(sheet, cap) => d0(sheet, numbers, cap, out, at),
-        Call::D1(sheet, cap) => d1(sheet, numbers, cap, out, at),
-        Call::Silent => at,
-        Call::Unknown => lines::say_unknown(out, at),
-    }
-}
-
-// Answers each line that ends in a piece of the input, and holds what stands behind the last one, as far as the room for a line goes: more
-// than a call may have is enough to answer it. An answered line takes at least the byte that ends it, so there is room for all answers where
-// there is room for one to each byte.
-fn take_in(
-    input: &[u8],
-    line: &mut [u8],
-    held: usize,
-    numbers: &mut [u32],
-    out: &mut [u8],
-) -> Carried
+// Answers each line that ends in a piece of the input, one line after the other: its answer is written before the next is looked at.
+fn take_in(input: &[u8], line: &mut [u8], held: usize, ns: &mut [Word], out: &mut [u8]) -> Piece
     requires { ⌜ held ≤ length (now line) ⌝ }
-    requires { ⌜ roomLine < length (now line) ⌝ }
-    requires { ⌜ roomNumbers ≤ length (now numbers) ⌝ }
-    requires { ⌜ roomAnswer * length (now input) ≤ length (now out) ⌝ }
-    ensures { λ r. ⌜ Put (now (out .entry)) 0 (replies (take held (now (line .entry))) (now (input .entry))) (r .at) (now (out .exit)) ⌝ }
-    ensures { λ r. ⌜ take (r .held) (now (line .exit)) ≡ take (length (now (line .entry))) (begunAfter (take held (now (line .entry))) (now (input .entry))) ⌝ }
-    ensures { λ r. ⌜ r .held ≤ length (now (line .entry)) ⌝ }
-    ensures { λ r. ⌜ r .at ≤ length (now (out .entry)) ⌝ }
+    requires { ⌜ Whole 10 (take held (now line)) ⌝ }
+    requires { ⌜ Rooms (now line) (now ns) (now out) ⌝ }
+    ensures { λ r. ⌜ r .held ≤ length (now (line .exit)) ⌝ }
+    ensures { λ r. ⌜ Whole 10 (take (r .held) (now (line .exit))) ⌝ }
+    ensures { λ r. ⌜ (r .written ≡ true → Answered (take held (now (line .entry))) (now (input .entry)) (take (r .held) (now (line .exit))) []) ⌝ }
 {
     let mut from = 0;
     let mut held = held;
-    let mut at = 0;
-    loop {
-        let end = lines::end_of(input, from, b'\n');
-        held = lines::append(line, held, &input[from..end]);
-        if end == input.len() {
-            return Carried { held, at };
+    while from < input.len() {
+        let s = take_step(input, from, line, held, ns, out);
+        held = s.held;
+        from = s.from;
+        let at = s.at;
+        if !write_answer(&out[..at]) {
+            return Piece {
+                written: false,
+                held,
+            };
         }
-        at = answer(&line[..held], numbers, out, at);
-        held = 0;
-        from = end + 1;
+    }
+    Piece {
+        written: true,
+        held,
     }
 }
 
-// Reads standard input to its end, piece by piece, and answers its lines; the last one need not end. A proved loop has to end, and
-// nothing says that the input does: so it counts its turns down, from a number that no run uses up.
-fn run(input: &mut [u8], line: &mut [u8], numbers: &mut [u32], out: &mut [u8])
-    requires { ⌜ roomLine < length (now line) ⌝ }
-    requires { ⌜ roomNumbers ≤ length (now numbers) ⌝ }
-    requires { ⌜ roomAnswer ≤ length (now out) ⌝ }
-    requires { ⌜ roomAnswer * length (now input) ≤ length (now out) ⌝ }
+// Reads a piece of the input.
+fn read_input(input: &mut [u8]) -> Got
+    requires { ⌜ 0 < length (now input) ⌝ }
+    ensures { λ r. ⌜ r .count ≤ length (now (input .exit)) ⌝ }
+{
+    read_piece(input, b"console: standard input")
+}
+
+// Reads standard input to its end, piece by piece, and answers its lines; says whether all was read and written. Where a read or a write fails it
+// stops, and answers nothing of what it holds. A proved loop has to end, and nothing says that the input does: so it counts its turns down, from
+// a number that no run uses up.
+fn run(input: &mut [u8], line: &mut [u8], ns: &mut [Word], out: &mut [u8]) -> bool
+    requires { ⌜ 0 < length (now input) ⌝ }
+    requires { ⌜ Rooms (now line) (now ns) (now out) ⌝ }
 {
     let mut held = 0;
     let mut turns = u64::MAX;
     while turns > 0 {
-        let got = libc::read(STDIN_FILENO, input);
-        let count = io::count(got, input);
-        if count == 0 {
-            break;
+        let got = read_input(input);
+        let count = got.count;
+        let piece = take_in(&input[..count], line, held, ns, out);
+        held = piece.held;
+        if !piece.written {
+            return false;
         }
-        let carried = take_in(&input[..count], line, held, numbers, out);
-        held = carried.held;
-        let at = carried.at;
-        if !io::write_all(STDOUT_FILENO, &out[..at]) {
-            return;
+        if got.last {
+            return got.good;
         }
         turns -= 1;
     }
-    let at = answer(&line[..held], numbers, out, 0);
-    io::write_all(STDOUT_FILENO, &out[..at]);
+    false
 }
 
-// Room for an answer to each byte of `io::buffer`.
-fn room_for_answers() -> [u8; 262144]
-    ensures { λ r. ⌜ roomAnswer * 4096 ≡ length r ⌝ }
+// Room for a line: two bytes more than a call may have, so that with a carriage return a line that is too long is still seen to be.
+fn room_for_line() -> [u8; 131073]
+    ensures { λ r. ⌜ 2 + roomLine ≡ length r ⌝ }
 {
-    [0; 262144]
+    [0; 131073]
 }
 
-// The rooms. That of a line has one byte more than a call may have, so that a line that is too long is seen to be.
+// Room for the numbers of a line: each takes two bytes of it.
+fn room_for_numbers() -> [Word; 65536]
+    ensures { λ r. ⌜ 65536 ≡ length r ⌝ }
+{
+    [0; 65536]
+}
+
+// Room for one answer: its own text, and a list of all numbers of a line.
+fn room_for_answer() -> [u8; 1376416]
+    ensures { λ r. ⌜ 160 + 21 * 65536 ≡ length r ⌝ }
+{
+    [0; 1376416]
+}
+
+// The rooms are made once. At a good end a byte is written to descriptor 3, for a caller that wants to know: a program has no exit status.
 fn main() {
-    let mut input = io::buffer();
-    let mut line = [0u8; lines::ROOM_LINE + 1];
-    let mut numbers = [0u32; lines::ROOM_NUMBERS];
-    let mut out = room_for_answers();
-    run(&mut input, &mut line, &mut numbers, &mut out);
+    let mut input = [0u8; 1024];
+    let mut line = room_for_line();
+    let mut ns = room_for_numbers();
+    let mut out = room_for_answer();
+    if run(&mut input, &mut line, &mut ns, &mut out) {
+        end_well();
+    }
 }

@@ -1,9 +1,16 @@
 // The small program of document 01: it measures the kitchen sheet at cap 8, writes message 5 with cell 0 stuck at 0 and reads the
-// result at radius 1. Its whole output is four lines; the gate compares them with `stdout` beside `src`.
+// result at radius 1. Its whole output is four lines, put into one room and written at once; the gate compares them with `stdout` beside `src`.
+ghost use Prim.Native.Nat.{_+_, _≤_};
+ghost use lib.ListN.{length};
 use paper::MeasuredD0;
 use paper::MeasuredD1;
 use paper::Reading;
+use paper::Word;
 use paper::Written;
+use streams::end_well;
+use streams::write_all;
+use text::put;
+use text::put_number;
 
 // The kitchen sheet: n 7, k 3, l 1.
 const N: u32 = 7;
@@ -13,66 +20,110 @@ const K: u32 = 3;
 const L: u32 = 1;
 
 // The rows of the kitchen sheet: G1, G0, H, M.
-fn kitchen_rows() -> [u32; 10] {
+fn kitchen_rows() -> [Word; 10] {
     [49, 82, 100, 127, 27, 45, 78, 9, 10, 12]
 }
 
-// A word of text and a number after it.
-fn print(text: &[u8], number: u32) {
-    io::write_all(1, text);
-    io::print_decimal(1, number as u64);
+// A word of text, a number after it, and what ends them. A line is two of these at most, of 30 bytes each.
+fn put_part(out: &mut [u8], at: usize, name: &[u8], number: u32, end: &[u8]) -> usize
+    requires { ⌜ length (now name) + length (now end) ≤ 10 ⌝ }
+    requires { ⌜ at + 30 ≤ length (now out) ⌝ }
+    ensures { λ r. ⌜ r ≤ at + 30 ⌝ }
+{
+    let named = put(out, at, name);
+    let numbered = put_number(out, named, number as u64);
+    put(out, numbered, end)
 }
 
 // One measured distance on its line.
-fn print_distance(name: &[u8], d: u32, tried: u32) {
-    print(name, d);
-    print(b" tried ", tried);
-    io::write_all(1, b"\n");
+fn put_distance(out: &mut [u8], at: usize, name: &[u8], d: u32, tried: u32) -> usize
+    requires { ⌜ length (now name) ≤ 5 ⌝ }
+    requires { ⌜ at + 60 ≤ length (now out) ⌝ }
+    ensures { λ r. ⌜ r ≤ at + 60 ⌝ }
+{
+    let next = put_part(out, at, name, d, b" ");
+    put_part(out, next, b"tried ", tried, b"\n")
 }
 
 // What the box answers else, which the four lines never show.
-fn print_refusal() {
-    io::write_all(1, b"refused\n");
+fn put_refusal(out: &mut [u8], at: usize) -> usize
+    requires { ⌜ at + 60 ≤ length (now out) ⌝ }
+    ensures { λ r. ⌜ r ≤ at + 60 ⌝ }
+{
+    put(out, at, b"refused\n")
 }
 
-// "d0 2 tried 8" and "d1 3 tried 29"
-fn measure(rows: &[u32]) {
+// "d0 2 tried 8"
+fn put_d0(out: &mut [u8], at: usize, rows: &[Word]) -> usize
+    requires { ⌜ at + 60 ≤ length (now out) ⌝ }
+    ensures { λ r. ⌜ r ≤ at + 60 ⌝ }
+{
     match store::measure_d0(N, K, L, rows, 8) {
-        MeasuredD0::Distance { d, tried } => print_distance(b"d0 ", d, tried),
-        _ => print_refusal(),
+        MeasuredD0::Distance { d, tried } => put_distance(out, at, b"d0 ", d, tried),
+        _ => put_refusal(out, at),
     }
+}
+
+// "d1 3 tried 29"
+fn put_d1(out: &mut [u8], at: usize, rows: &[Word]) -> usize
+    requires { ⌜ at + 60 ≤ length (now out) ⌝ }
+    ensures { λ r. ⌜ r ≤ at + 60 ⌝ }
+{
     match store::measure_d1(N, K, L, rows, 8) {
         MeasuredD1::Distance {
             d,
             tried,
             radius: _,
-        } => print_distance(b"d1 ", d, tried),
-        _ => print_refusal(),
+        } => put_distance(out, at, b"d1 ", d, tried),
+        _ => put_refusal(out, at),
     }
 }
 
 // "read 5 tried 1"
-fn read_back(rows: &[u32], word: u32) {
+fn put_read(out: &mut [u8], at: usize, rows: &[Word], word: Word) -> usize
+    requires { ⌜ at + 60 ≤ length (now out) ⌝ }
+    ensures { λ r. ⌜ r ≤ at + 60 ⌝ }
+{
     match store::read(N, K, L, rows, word, 1) {
         Reading::Message {
             message,
             z: _,
             tried,
-        } => print_distance(b"read ", message, tried),
-        Reading::Refused(_) => print_refusal(),
+        } => put_distance(out, at, b"read ", message, tried),
+        Reading::Refused(_) => put_refusal(out, at),
+    }
+}
+
+// "write 42", and the word read back.
+fn put_write(out: &mut [u8], at: usize, rows: &[Word]) -> usize
+    requires { ⌜ at + 90 ≤ length (now out) ⌝ }
+    ensures { λ r. ⌜ r ≤ at + 90 ⌝ }
+{
+    match store::write(N, K, L, rows, 5, 1, 0) {
+        Written::Word { word, d: _ } => {
+            let next = put_part(out, at, b"write ", word, b"\n");
+            put_read(out, next, rows, word)
+        }
+        Written::Refused(_) => put_refusal(out, at),
     }
 }
 
 // The four lines, in their order.
+fn put_lines(out: &mut [u8], rows: &[Word]) -> usize
+    requires { ⌜ 210 ≤ length (now out) ⌝ }
+    ensures { λ r. ⌜ r ≤ 210 ⌝ }
+{
+    let first = put_d0(out, 0, rows);
+    let second = put_d1(out, first, rows);
+    put_write(out, second, rows)
+}
+
+// The room for the lines, and what was put into it, written at once.
 fn main() {
     let rows = kitchen_rows();
-    measure(&rows);
-    match store::write(N, K, L, &rows, 5, 1, 0) {
-        Written::Word { word, d: _ } => {
-            print(b"write ", word);
-            io::write_all(1, b"\n");
-            read_back(&rows, word);
-        }
-        Written::Refused(_) => print_refusal(),
+    let mut out = [0u8; 210];
+    let end = put_lines(&mut out, &rows);
+    if write_all(&out[..end], b"kitchen: standard output") {
+        end_well();
     }
 }

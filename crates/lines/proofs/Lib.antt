@@ -1,6 +1,4 @@
--- The laws that the functions' proofs cite, a file for each file of specs/.
-pub mod Numerals
-pub mod Tokens
-pub mod Calls
-pub mod Answers
-mod Examples
+-- The laws of shapes and of lines.
+-- The functions' proofs cite them; `asked-placed` and `asked-held` are for the crates above.
+pub mod Shapes
+pub mod Lines

@@ -1,7 +1,3 @@
--- The line protocol: what the bytes of a line mean, and the bytes of each answer.
-pub mod Bytes
-pub mod Numerals
-pub mod Tokens
-pub mod Calls
-pub mod Rooms
-pub mod Answers
+-- What a line asks for, by a table of names and shapes.
+pub mod Shapes
+pub mod Lines

@@ -1,242 +1,132 @@
-// Calls: the verb, the numbers and the shape of a line.
+// What a line asks for: a verb of the table and the numbers of its shape.
 ghost use mathlib.Core.Path.{_≡_};
-ghost use Prim.Native.Nat.{_+_, _≤_};
-ghost use lib.ListN.{length, take, drop};
-ghost use Rattle.lines.specs.Tokens.{tokens};
-ghost use Rattle.lines.specs.Calls.{verbOf, numerals, askedOf, formed, spelled, asked};
-ghost use Rattle.lines.specs.Calls.{same as Calls·same};
-ghost use Rattle.lines.specs.Rooms.{roomNumbers, within, counted, held, lent, meant, Held, Roomy, Shaped};
-use crate::number::Number;
-use crate::number::parse_number;
-use crate::scan::end_of;
-
-// The most rows that a list may have.
-pub const ROOM_ROWS: u32 = 256;
-
-// The most numbers that a call may have: n, k, l, the count, the rows and three arguments.
-pub const ROOM_NUMBERS: usize = 263;
+ghost use mathlib.Core.List.{List};
+ghost use Prim.Native.Nat.{ℕ, _+_, _*_, _≤_};
+ghost use lib.ListN.{length, take};
+ghost use Rattle.text.specs.Tokens.{cut};
+ghost use Rattle.lines.specs.Shapes.{held, counted};
+ghost use Rattle.lines.specs.Lines.{silent, unknown, lookup, found, spelled, comes, bare, calling, asked, storing, askedIn, meant, used, roomLine, inTable};
+ghost use Rattle.lines.specs.Lines.{called as Lines·called};
+use crate::shape::Counted;
+use crate::shape::fill;
+use paper::Word;
+use text::end_of;
+use text::same;
 
 // The most bytes that a call's line may have, without the newline.
-pub const ROOM_LINE: usize = 4095;
+pub const ROOM_LINE: usize = 131071;
 
-// The verbs of the protocol, or none of them.
-pub enum Verb {
-    Admit,
-    Write,
-    Read,
-    D0,
-    D1,
+// The most numbers that such a line has.
+pub const ROOM_NUMBERS: usize = 65536;
+
+// An entry of the table: its number, and the place and the size of its shape.
+pub enum Entry {
+    At(usize, usize, usize),
     None,
 }
 
-// How many numbers were read into the lent room, or that they are no numbers or too many.
-pub enum Counted {
-    All(usize),
-    None,
-}
-
-// A sheet whose rows stand among the numbers of the line, from place 4 on.
-pub struct Sheet {
-    pub n: u32,
-    pub k: u32,
-    pub l: u32,
-    pub rows: usize,
-}
-
-// The sheet that numbers begin with, or that they begin with none.
-pub enum Shape {
-    Sheet(Sheet),
-    None,
-}
-
-// What a line asks for: a call with its sheet, and then its own numbers in the order of the protocol (`write`: message, stuck, levels;
-// `read`: y, radius; `d0` and `d1`: cap); nothing, for an empty line or a comment; or what is no call.
-pub enum Call {
-    Admit(Sheet),
-    Write(Sheet, u32, u32, u32),
-    Read(Sheet, u32, u32),
-    D0(Sheet, u32),
-    D1(Sheet, u32),
+// What a line asks for: nothing; what is no call; or the call of a verb, by its number, on the first numbers of the room.
+pub enum Line {
     Silent,
     Unknown,
+    Call(usize, usize),
 }
 
-// The same bytes.
-fn same(a: &[u8], b: &[u8]) -> bool
-    ensures { λ r. ⌜ r ≡ Calls·same (now (a .entry)) (now (b .entry)) ⌝ }
+// Finds a verb's name in a table of names and shapes in turn, separated by spaces.
+fn find(table: &[u8], name: &[u8]) -> Entry
+    ensures { λ r. ⌜ found r (now (table .entry)) ≡ lookup (now (name .entry)) 0 (cut 32 (now (table .entry))) ⌝ }
+    ensures { λ r. ⌜ inTable r ≤ length (now (table .entry)) ⌝ }
 {
-    if a.len() != b.len() {
-        return false;
-    }
-    let mut i = 0;
-    while i < a.len() {
-        if a[i] != b[i] {
-            return false;
-        }
-        i += 1;
-    }
-    true
-}
-
-// The verb that a token spells.
-fn verb_of(token: &[u8]) -> Verb
-    ensures { λ r. ⌜ r ≡ verbOf (now (token .entry)) ⌝ }
-{
-    if same(token, b"admit") {
-        return Verb::Admit;
-    }
-    if same(token, b"write") {
-        return Verb::Write;
-    }
-    if same(token, b"read") {
-        return Verb::Read;
-    }
-    if same(token, b"d0") {
-        return Verb::D0;
-    }
-    if same(token, b"d1") {
-        return Verb::D1;
-    }
-    Verb::None
-}
-
-// The tokens of a line from a place on, as numbers in the lent room.
-fn parse_numbers(line: &[u8], from: usize, numbers: &mut [u32]) -> Counted
-    requires { ⌜ from ≤ length (now line) ⌝ }
-    ensures { λ r. ⌜ counted r (now (numbers .exit)) ≡ within (length (now (numbers .entry))) (numerals (tokens (drop from (now (line .entry))))) ⌝ }
-    ensures { λ r. ⌜ held r ≤ length (now (numbers .exit)) ⌝ }
-{
-    let mut at = from;
-    let mut count = 0;
+    let mut at = 0;
+    let mut v = 0;
     loop {
-        let end = end_of(line, at, b' ');
-        let Number::Value(x) = parse_number(&line[at..end]) else {
-            return Counted::None;
-        };
-        if count == numbers.len() {
-            return Counted::None;
+        let end = end_of(table, at, b' ');
+        if end == table.len() {
+            return Entry::None;
         }
-        numbers[count] = x;
-        count += 1;
-        if end == line.len() {
-            return Counted::All(count);
+        let from = end + 1;
+        let to = end_of(table, from, b' ');
+        if same(&table[at..end], name) {
+            return Entry::At(v, from, to - from);
         }
-        at = end + 1;
+        if to == table.len() {
+            return Entry::None;
+        }
+        at = to + 1;
+        v += 1;
     }
 }
 
-// The sheet that numbers begin with: n, k, l, and a list of no more rows than the room has, all of them there.
-fn sheet_of(numbers: &[u32]) -> Shape
-    ensures { λ r. ⌜ Shaped r (now (numbers .entry)) ⌝ }
+// The call of verb v, if the numbers fit the shape.
+fn called(v: usize, numbers: Counted) -> Line
+    ensures { λ r. ⌜ ((ns : List ℕ) → meant r ns ≡ Lines·called v (counted numbers ns)) ⌝ }
+    ensures { λ r. ⌜ used r ≡ held numbers ⌝ }
 {
-    if numbers.len() < 4 {
-        return Shape::None;
-    }
-    let count = numbers[3];
-    if ROOM_ROWS < count {
-        return Shape::None;
-    }
-    let rows = count as usize;
-    if numbers.len() - 4 < rows {
-        return Shape::None;
-    }
-    Shape::Sheet(Sheet {
-        n: numbers[0],
-        k: numbers[1],
-        l: numbers[2],
-        rows,
-    })
-}
-
-// The call of a verb on a sheet: the numbers behind the sheet are exactly its arguments.
-fn call_of(verb: Verb, sheet: Sheet, numbers: &[u32]) -> Call
-    requires { ⌜ Held sheet (now numbers) ⌝ }
-    ensures { λ r. ⌜ meant r (now (numbers .entry)) ≡ askedOf verb (lent sheet (now (numbers .entry))) (drop (4 + sheet .rows) (now (numbers .entry))) ⌝ }
-    ensures { λ r. ⌜ Roomy r (now (numbers .entry)) ⌝ }
-{
-    let at = 4 + sheet.rows;
-    let left = numbers.len() - at;
-    match verb {
-        Verb::Admit => if left == 0 {
-            Call::Admit(sheet)
-        } else {
-            Call::Unknown
-        },
-        Verb::Write => if left == 3 {
-            Call::Write(sheet, numbers[at], numbers[at + 1], numbers[at + 2])
-        } else {
-            Call::Unknown
-        },
-        Verb::Read => if left == 2 {
-            Call::Read(sheet, numbers[at], numbers[at + 1])
-        } else {
-            Call::Unknown
-        },
-        Verb::D0 => if left == 1 {
-            Call::D0(sheet, numbers[at])
-        } else {
-            Call::Unknown
-        },
-        Verb::D1 => if left == 1 {
-            Call::D1(sheet, numbers[at])
-        } else {
-            Call::Unknown
-        },
-        Verb::None => Call::Unknown,
-    }
-}
-
-// The rows of a sheet, among the numbers of its line.
-pub fn rows_of(sheet: Sheet, numbers: &[u32]) -> &[u32]
-    requires { ⌜ Held sheet (now numbers) ⌝ }
-    ensures { λ r. ⌜ now r ≡ take (sheet .rows) (drop 4 (now (numbers .entry))) ⌝ }
-{
-    let end = 4 + sheet.rows;
-    &numbers[4..end]
-}
-
-// The call of a verb and its numbers.
-fn shaped_call(verb: Verb, numbers: &[u32]) -> Call
-    ensures { λ r. ⌜ meant r (now (numbers .entry)) ≡ formed verb (now (numbers .entry)) ⌝ }
-    ensures { λ r. ⌜ Roomy r (now (numbers .entry)) ⌝ }
-{
-    match sheet_of(numbers) {
-        Shape::Sheet(sheet) => call_of(verb, sheet, numbers),
-        Shape::None => Call::Unknown,
+    match numbers {
+        Counted::All(count) => Line::Call(v, count),
+        Counted::None => Line::Unknown,
     }
 }
 
 // The call that the tokens of a line spell.
-fn parse_call(line: &[u8], numbers: &mut [u32]) -> Call
-    requires { ⌜ roomNumbers ≤ length (now numbers) ⌝ }
-    ensures { λ r. ⌜ meant r (now (numbers .exit)) ≡ spelled (tokens (now (line .entry))) ⌝ }
-    ensures { λ r. ⌜ Roomy r (now (numbers .exit)) ⌝ }
+fn parse_call(line: &[u8], table: &[u8], numbers: &mut [Word]) -> Line
+    requires { ⌜ length (now line) ≤ 2 * length (now numbers) ⌝ }
+    ensures { λ r. ⌜ meant r (now (numbers .exit)) ≡ spelled unknown calling (now (table .entry)) (cut 32 (now (line .entry))) ⌝ }
+    ensures { λ r. ⌜ used r ≤ length (now (numbers .exit)) ⌝ }
+    ensures { λ _. ⌜ now (numbers .exit) ≡ spelled (now (numbers .entry)) (storing (now (numbers .entry))) (now (table .entry)) (cut 32 (now (line .entry))) ⌝ }
 {
     let end = end_of(line, 0, b' ');
     if end == line.len() {
-        return Call::Unknown;
+        return Line::Unknown;
     }
-    let verb = verb_of(&line[..end]);
-    match parse_numbers(line, end + 1, numbers) {
-        Counted::All(count) => shaped_call(verb, &numbers[..count]),
-        Counted::None => Call::Unknown,
-    }
+    let Entry::At(v, from, size) = find(table, &line[..end]) else {
+        return Line::Unknown;
+    };
+    let to = from + size;
+    called(v, fill(line, end + 1, &table[from..to], numbers))
 }
 
-// What a line asks for. Its numbers, the rows among them, are left in the lent room.
-pub fn parse(line: &[u8], numbers: &mut [u32]) -> Call
-    requires { ⌜ roomNumbers ≤ length (now numbers) ⌝ }
-    ensures { λ r. ⌜ meant r (now (numbers .exit)) ≡ asked (now (line .entry)) ⌝ }
-    ensures { λ r. ⌜ Roomy r (now (numbers .exit)) ⌝ }
+// What a line that ends at its last byte asks for. Its numbers are left in the lent room.
+fn parse_bare(line: &[u8], table: &[u8], numbers: &mut [Word]) -> Line
+    requires { ⌜ roomLine ≤ 2 * length (now numbers) ⌝ }
+    ensures { λ r. ⌜ meant r (now (numbers .exit)) ≡ comes unknown calling silent (now (table .entry)) (now (line .entry)) ⌝ }
+    ensures { λ r. ⌜ used r ≤ length (now (numbers .exit)) ⌝ }
+    ensures { λ _. ⌜ now (numbers .exit) ≡ comes (now (numbers .entry)) (storing (now (numbers .entry))) (now (numbers .entry)) (now (table .entry)) (now (line .entry)) ⌝ }
 {
     if line.len() == 0 {
-        return Call::Silent;
+        return Line::Silent;
     }
     if line[0] == b'#' {
-        return Call::Silent;
+        return Line::Silent;
     }
     if ROOM_LINE < line.len() {
-        return Call::Unknown;
+        return Line::Unknown;
     }
-    parse_call(line, numbers)
+    parse_call(line, table, numbers)
+}
+
+// Where a line ends: before the carriage return that may be its last byte.
+fn bare_end(line: &[u8]) -> usize
+    ensures { λ r. ⌜ take r (now (line .entry)) ≡ bare (now (line .entry)) ⌝ }
+    ensures { λ r. ⌜ r ≤ length (now (line .entry)) ⌝ }
+{
+    let end = line.len();
+    if end == 0 {
+        return end;
+    }
+    if line[end - 1] == b'\r' {
+        return end - 1;
+    }
+    end
+}
+
+// What a line asks for. Its numbers are left in the lent room.
+pub fn parse(line: &[u8], table: &[u8], numbers: &mut [Word]) -> Line
+    requires { ⌜ roomLine ≤ 2 * length (now numbers) ⌝ }
+    ensures { λ r. ⌜ meant r (now (numbers .exit)) ≡ asked (now (table .entry)) (now (line .entry)) ⌝ }
+    ensures { λ r. ⌜ used r ≤ length (now (numbers .exit)) ⌝ }
+    ensures { λ _. ⌜ now (numbers .exit) ≡ askedIn (now (table .entry)) (now (line .entry)) (now (numbers .entry)) ⌝ }
+{
+    let end = bare_end(line);
+    parse_bare(&line[..end], table, numbers)
 }

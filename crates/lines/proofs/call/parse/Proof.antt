@@ -1,28 +1,28 @@
--- `parse` meets its contract: silent, too long, or what its tokens spell.
-use mathlib.Core.Path.{sym, _∙_}
+-- `parse` meets its contract: what a line asks for is asked of the line without its carriage return.
+-- It is the function that other crates call.
+use mathlib.Core.Path.{sym, ap, _∙_}
 use borrow.Author.Needs.{needs}
 use native.Mathlib.Omega.{arith}
-use Rattle.lines.proofs.Calls.{asked-empty, asked-comment, asked-long-line, asked-spelled}
+use lib.Seq.{length-take-le}
+use Rattle.lines.specs.Lines.{silent, unknown, comes, calling, storing}
+use Rattle.lines.proofs.Lines.{asked-bare, askedIn-bare}
 use Rattle.lines.proofs.call.parse.Statement.{statement}
 use Rattle.lines.proofs.call.parse.Tie as tie
 
+slice-aggregate-parse-bare : tie.Need-slice-aggregate-parse-bare
+slice-aggregate-parse-bare c = sym (length-take-le _ _ (omega arith))
+
 returns : tie.Need-returns
-returns c = (sym (asked-empty (c .before .before .before .args .line .now) (c .if1 .taken)), tt)
-
-returns-2 : tie.Need-returns-2
-returns-2 c = (sym (asked-comment (c .before .before .before .before .before .args .line .now) (omega arith) (c .if2 .taken)), tt)
-
-returns-3 : tie.Need-returns-3
-returns-3 c =
-    let line = c .before .before .before .before .before .before .args .line .now in
-    (sym (asked-long-line line (omega arith) (c .before .if2 .left) (c .if3 .taken)), tt)
-
-returns-4 : tie.Need-returns-4
-returns-4 c =
-    let p = c .before .before .parse-call in
-    let line = c .before .before .before .before .before .before .before .before .before .before .args .line .now in
-    let call = c .before .before .before .before .before .if2 .left in
-    (p .ensures .0 ∙ sym (asked-spelled line (omega arith) call (omega arith)), p .ensures .1)
+returns c =
+    let a = c .before .before .before .before .before .before .before .before .before .args in
+    let p = c .before .before .parse-bare in
+    let end = c .before .before .before .before .before .bare-end .ensures .0 in
+    let room = a .numbers .now in (
+      p .ensures .0 ∙ ap (comes unknown calling silent (a .table .now)) end ∙ sym (asked-bare (a .table .now) (a .line .now)),
+      (p .ensures .1 .0, p .ensures .1 .1 ∙ ap (comes room (storing room) room (a .table .now)) end ∙ sym (askedIn-bare (a .table .now) (a .line .now) room)),
+    )
 
 pub parse-spec : {M : Type 1} → statement M
-parse-spec = tie.close (tie.spec returns (λ c. search needs) returns-2 returns-3 (λ c κs. search needs) (λ c. search needs) returns-4)
+parse-spec =
+    tie.close
+    (tie.spec (λ c κs. search needs) slice-aggregate-parse-bare (λ c κs. search needs) (λ c. search needs) returns)

@@ -1,0 +1,3 @@
+-- The laws of labels.
+-- The functions' proofs cite them.
+pub mod Answers

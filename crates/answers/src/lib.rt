@@ -1,0 +1,60 @@
+// The text of an answer: what a call told, behind labels, put into a room. Knows no verb.
+ghost use Prim.Native.Nat.{_+_, _*_, _≤_};
+ghost use lib.ListN.{length};
+ghost use Rattle.text.specs.Puts.{Put};
+ghost use Rattle.told.specs.Telling.{tells};
+ghost use Rattle.answers.specs.Answers.{said, labelled, spoken};
+use text::end_of;
+use text::least;
+use text::put;
+use text::put_number;
+use told::Told;
+
+// Puts values behind their labels, which bars separate.
+fn say_values(out: &mut [u8], at: usize, labels: &[u8], values: &[u64]) -> usize
+    requires { ⌜ at + length (now labels) + 20 * length (now values) ≤ length (now out) ⌝ }
+    ensures { λ r. ⌜ Put (now (out .entry)) at (labelled (now (labels .entry)) (now (values .entry))) r (now (out .exit)) ⌝ }
+    ensures { λ r. ⌜ r ≤ at + length (now (labels .entry)) + 20 * length (now (values .entry)) ⌝ }
+{
+    let mut to = at;
+    let mut from = 0;
+    let mut i = 0;
+    while i < values.len() {
+        let end = end_of(labels, from, b'|');
+        let named = put(out, to, &labels[from..end]);
+        to = put_number(out, named, values[i]);
+        from = least(labels.len(), end + 1);
+        i += 1;
+    }
+    to
+}
+
+// Puts values behind their labels, or the text alone if there are none.
+fn say_labels(out: &mut [u8], at: usize, labels: &[u8], values: &[u64]) -> usize
+    requires { ⌜ at + length (now labels) + 20 * length (now values) ≤ length (now out) ⌝ }
+    ensures { λ r. ⌜ Put (now (out .entry)) at (said (now (labels .entry)) (now (values .entry))) r (now (out .exit)) ⌝ }
+    ensures { λ r. ⌜ r ≤ at + length (now (labels .entry)) + 20 * length (now (values .entry)) ⌝ }
+{
+    if values.len() == 0 {
+        return put(out, at, labels);
+    }
+    say_values(out, at, labels, values)
+}
+
+// Puts what a call told, its values behind the labels of its verb.
+pub fn say(out: &mut [u8], at: usize, labels: &[u8], t: Told) -> usize
+    requires { ⌜ at + length (now labels) + 100 ≤ length (now out) ⌝ }
+    ensures { λ r. ⌜ Put (now (out .entry)) at (spoken (now (labels .entry)) (tells t)) r (now (out .exit)) ⌝ }
+    ensures { λ r. ⌜ r ≤ at + length (now (labels .entry)) + 100 ⌝ }
+{
+    let count = least(t.count as usize, 3);
+    let values = [t.number as u64, t.a, t.b, t.c];
+    let end = 1 + count;
+    if t.kind == 0 {
+        return say_labels(out, at, labels, &values[1..end]);
+    }
+    if t.kind == 1 {
+        return say_labels(out, at, b"more tried | radius ", &values[1..end]);
+    }
+    say_labels(out, at, b"refused | ", &values[..end])
+}

@@ -1,0 +1,243 @@
+-- Shapes as they are read, letter by letter, and the numbers that fit them.
+-- `fill` cites the first part; the second says where each number stands (`fill-placed`).
+use mathlib.Core.Path.{_≡_, refl, sym, ap, ap₂, _∙_, subst}
+use mathlib.Core.Bool.{Bool, true, false, cond}
+use mathlib.Core.Option.{Option, none, some}
+use mathlib.Core.List.{List, [], _∷_, _++_, append-assoc}
+use Prim.Native.Nat.{ℕ, zero, suc, _+_, _-_, _^_, _≤_, _<_}
+use native.Mathlib.Nat.{add-zero}
+use native.Mathlib.Numerals.{add-one}
+use native.Mathlib.Decide.{decLt, ℕ-discrete}
+use native.Mathlib.Omega.{arith}
+use lib.Dec.{eqb}
+use lib.ListN.{length, getD, take, drop, set, length-append, length-drop, drop-of-length-le}
+use lib.Seq.{drop-drop, getD-drop, take-suc-set, drop-cons}
+use borrow.Author.Tests.{eq-eqb, ne-eqb, eqb-true, eqb-false}
+use Rattle.text.specs.declared.Number.{Number}
+use Rattle.text.specs.declared.Number.the-variants as Number
+use Rattle.text.specs.Numerals.{numeral}
+use Rattle.text.proofs.Numerals.{numeral-most}
+use Rattle.paper.specs.Words.{width}
+use Rattle.lines.specs.Shapes.{mostOf, itemsOf, itemOf, many, unrolled, joined, before, fill, stored, filled, Placed}
+
+-- ---- the letters that are to come
+
+length-many : (n letter : ℕ) → length (many n letter) ≡ n
+length-many zero letter = refl
+length-many (suc n) letter = ap suc (length-many n letter)
+
+pub unread-length : (left letter at : ℕ) (shape : List ℕ) → length (many left letter ++ drop at shape) ≡ left + (length shape - at)
+unread-length left letter at shape =
+    length-append (many left letter) (drop at shape) ∙ ap₂ (λ (a b : ℕ). a + b) (length-many left letter) (length-drop at shape)
+
+-- two tests of the same fact
+eqb-iff : (a b c d : ℕ) → (a ≡ b → c ≡ d) → (c ≡ d → a ≡ b) → eqb a b ≡ eqb c d
+eqb-iff a b c d f g = go (ℕ-discrete a b)
+  where
+    go : Dec (a ≡ b) → eqb a b ≡ eqb c d
+    go (yes e) = eq-eqb a b e ∙ sym (eq-eqb c d (f e))
+    go (no n) = ne-eqb a b n ∙ sym (ne-eqb c d (λ e. n (g e)))
+
+module _ (left letter at : ℕ) (shape : List ℕ) where
+  pub read-item : (left ≡ 0 → ⊥) → eqb left 0 ≡ eqb (length (many left letter ++ drop at shape)) 0
+  read-item n =
+      eqb-iff left 0 (length (many left letter ++ drop at shape)) 0 (λ e. absurd (n e)) (λ e. omega (arith, unread-length left letter at shape))
+
+  pub read-shape : left ≡ 0 → at ≤ length shape → eqb at (length shape) ≡ eqb (length (many left letter ++ drop at shape)) 0
+  read-shape h k =
+      eqb-iff at (length shape) (length (many left letter ++ drop at shape)) 0 (λ e. omega (arith, unread-length left letter at shape))
+      (λ e. omega (arith, unread-length left letter at shape))
+
+-- a test for the end of a shape
+pub none-left : {b : Bool} (u : List ℕ) → b ≡ eqb (length u) 0 → b ≡ true → length u ≡ 0
+none-left u e t = eqb-true (length u) 0 (sym e ∙ t)
+
+pub some-left : {b : Bool} (u : List ℕ) → b ≡ eqb (length u) 0 → b ≡ false → 0 < length u
+some-left u e t = omega (arith, eqb-false (length u) 0 (sym e ∙ t))
+
+-- every place's most is one that a word holds
+pub most-le : (letter : ℕ) → mostOf letter ≤ 2 ^ width - 1
+most-le letter = go (eqb letter 119)
+  where
+    go : (b : Bool) → cond b (2 ^ width - 1) (2 ^ 32 - 1) ≤ 2 ^ width - 1
+    go true = omega arith
+    go false = omega arith
+
+pub letter-item : (left letter : ℕ) (rest : List ℕ) → 0 < left → getD (many left letter ++ rest) 0 0 ≡ letter
+letter-item zero letter rest h = absurd (omega arith)
+letter-item (suc n) letter rest h = refl
+
+pub letter-shape : (left letter at : ℕ) (shape : List ℕ) → left ≡ 0 → getD (many left letter ++ drop at shape) 0 0 ≡ getD shape at 0
+letter-shape zero letter at shape h = getD-drop at shape 0 0 ∙ ap (λ (i : ℕ). getD shape i 0) (add-zero at)
+letter-shape (suc n) letter at shape h = absurd (omega arith)
+
+item-bare : (wide : Bool) (x : ℕ) → unrolled (itemOf wide) x ≡ []
+item-bare true x = refl
+item-bare false x = refl
+
+pub passed-item : (left : ℕ) (wide : Bool) (rest : List ℕ) (x : ℕ) → 0 < left
+    → many (left - 1) (itemOf wide) ++ rest
+    ≡ unrolled (getD (many left (itemOf wide) ++ rest) 0 0) x ++ drop 1 (many left (itemOf wide) ++ rest)
+passed-item zero wide rest x h = absurd (omega arith)
+passed-item (suc n) wide rest x h =
+    let e : suc n - 1 ≡ n = omega arith in
+    ap (λ (k : ℕ). many k (itemOf wide) ++ rest) e ∙ sym (ap (λ (l : List ℕ). l ++ (many n (itemOf wide) ++ rest)) (item-bare wide x))
+
+pub passed-letter : (left letter at : ℕ) (shape : List ℕ) (x : ℕ) → left ≡ 0
+    → unrolled (getD shape at 0) x ++ drop (at + 1) shape
+    ≡ unrolled (getD (many left letter ++ drop at shape) 0 0) x ++ drop 1 (many left letter ++ drop at shape)
+passed-letter zero letter at shape x h =
+    ap₂ (λ (l : ℕ) (rest : List ℕ). unrolled l x ++ rest) (sym (letter-shape zero letter at shape refl)) (sym (drop-drop 1 at shape))
+passed-letter (suc n) letter at shape x h = absurd (omega arith)
+
+-- ---- the numbers, one token after the other
+
+-- the numbers that were read, and those that are to come
+abbrev pub after : List ℕ → Option (List ℕ) → Option (List ℕ)
+after xs none = none
+after xs (some ys) = some (xs ++ ys)
+
+pub after-nothing : (ns : Option (List ℕ)) → after [] ns ≡ ns
+after-nothing none = refl
+after-nothing (some ys) = refl
+
+after-one : (xs : List ℕ) (x : ℕ) (ns : Option (List ℕ)) → after xs (joined x ns) ≡ after (xs ++ (x ∷ [])) ns
+after-one xs x none = refl
+after-one xs x (some ys) = ap some (sym (append-assoc xs (x ∷ []) ys))
+
+-- no letter is left for a token
+pub fill-over : (u : List ℕ) (t : List ℕ) (ts : List (List ℕ)) → length u ≡ 0 → fill u (t ∷ ts) ≡ none
+unfolding fill
+fill-over [] t ts h = refl
+fill-over (l ∷ u) t ts h = absurd (omega arith)
+
+-- a token for the next letter
+pub fill-next : (u t : List ℕ) (ts : List (List ℕ)) → 0 < length u
+    → fill u (t ∷ ts) ≡ before (numeral (mostOf (getD u 0 0)) t) (λ x. fill (unrolled (getD u 0 0) x ++ drop 1 u) ts)
+unfolding fill
+fill-next [] t ts h = absurd (omega arith)
+fill-next (l ∷ u) t ts h = refl
+
+-- letters that are left without a token
+pub fill-short : (u : List ℕ) → 0 < length u → fill u [] ≡ none
+unfolding fill
+fill-short [] h = absurd (omega arith)
+fill-short (l ∷ u) h = refl
+
+pub fill-done : (u : List ℕ) → length u ≡ 0 → fill u [] ≡ some []
+unfolding fill
+fill-done [] h = refl
+fill-done (l ∷ u) h = absurd (omega arith)
+
+-- what a turn of the loop over the tokens finds, `xs` having been read before, for the token t and those behind it
+module _ (whole : Option (List ℕ)) (xs u t : List ℕ) (ts : List (List ℕ)) (inv : whole ≡ after xs (fill u (t ∷ ts))) where
+  pub turn-over : length u ≡ 0 → whole ≡ none
+  turn-over h = inv ∙ ap (after xs) (fill-over u t ts h)
+
+  module _ (some : 0 < length u) where
+    pub turn-none : numeral (mostOf (getD u 0 0)) t ≡ Number.None → whole ≡ none
+    turn-none e =
+        inv ∙ ap (after xs) (fill-next u t ts some
+        ∙ ap (λ (m : Number). before m (λ x. fill (unrolled (getD u 0 0) x ++ drop 1 u) ts)) e)
+
+    pub turn-next : (x : ℕ) (u' : List ℕ) → numeral (mostOf (getD u 0 0)) t ≡ Number.Value x → u' ≡ unrolled (getD u 0 0) x ++ drop 1 u
+        → whole ≡ after (xs ++ (x ∷ [])) (fill u' ts)
+    turn-next x u' e p =
+        inv ∙ ap (after xs) (fill-next u t ts some
+        ∙ ap (λ (m : Number). before m (λ x. fill (unrolled (getD u 0 0) x ++ drop 1 u) ts)) e
+        ∙ ap (λ (s : List ℕ). joined x (fill s ts)) (sym p))
+        ∙ after-one xs x (fill u' ts)
+
+-- what a turn leaves in the room, the numbers from place i on being to come
+pub filled-over : (i : ℕ) (room u t : List ℕ) (ts : List (List ℕ)) → length u ≡ 0 → filled i room u (t ∷ ts) ≡ room
+unfolding filled
+filled-over i room [] t ts h = refl
+filled-over i room (l ∷ u) t ts h = absurd (omega arith)
+
+filled-next : (i : ℕ) (room u t : List ℕ) (ts : List (List ℕ)) → 0 < length u
+    → filled i room u (t ∷ ts)
+    ≡ stored (numeral (mostOf (getD u 0 0)) t) i room (λ x next. filled (i + 1) next (unrolled (getD u 0 0) x ++ drop 1 u) ts)
+unfolding filled
+filled-next i room [] t ts h = absurd (omega arith)
+filled-next i room (l ∷ u) t ts h = refl
+
+module _ (i : ℕ) (room u t : List ℕ) (ts : List (List ℕ)) where
+  module _ (some : 0 < length u) where
+    pub filled-none : numeral (mostOf (getD u 0 0)) t ≡ Number.None → filled i room u (t ∷ ts) ≡ room
+    filled-none e =
+        filled-next i room u t ts some ∙ ap (λ (m : Number). stored m i room (λ x next. filled (i + 1) next (unrolled (getD u 0 0) x ++ drop 1 u) ts)) e
+
+    pub filled-one : (x : ℕ) (u' : List ℕ) → numeral (mostOf (getD u 0 0)) t ≡ Number.Value x → u' ≡ unrolled (getD u 0 0) x ++ drop 1 u
+        → filled i room u (t ∷ ts) ≡ filled (i + 1) (set room i x) u' ts
+    filled-one x u' e p =
+        filled-next i room u t ts some ∙ ap (λ (m : Number). stored m i room (λ x next. filled (i + 1) next (unrolled (getD u 0 0) x ++ drop 1 u) ts)) e
+        ∙ ap (λ (s : List ℕ). filled (i + 1) (set room i x) s ts) (sym p)
+
+pub filled-end : (i : ℕ) (room u : List ℕ) → filled i room u [] ≡ room
+unfolding filled
+filled-end i room [] = refl
+filled-end i room (l ∷ u) = refl
+
+-- the numbers with x stored behind them
+pub stores : (numbers : List ℕ) (count x : ℕ) → count < length numbers → take (count + 1) (set numbers count x) ≡ take count numbers ++ (x ∷ [])
+stores numbers count x k = rw (add-one count) (take-suc-set numbers count x k)
+
+-- ---- numbers that fit a shape stand where it has them
+
+-- the same as `Placed`, from the first number on
+abbrev Fitted : List ℕ → List ℕ → Type 0
+Fitted [] ns = length ns ≡ 0
+Fitted (letter ∷ shape) [] = ⊥
+Fitted (letter ∷ shape) (x ∷ ns) = (x ≤ mostOf letter) × (itemsOf letter x ≤ length ns) × Fitted shape (drop (itemsOf letter x) ns)
+
+joined-some : (x : ℕ) (m : Option (List ℕ)) (ns : List ℕ) → joined x m ≡ some ns → (rest : List ℕ) × (m ≡ some rest) × (ns ≡ x ∷ rest)
+joined-some x none ns e = let z : _≡_ {A = ℕ} 0 1 = cc in absurd (omega arith)
+joined-some x (some rest) ns e = (rest, refl, (cc))
+
+before-some : (n : Number) (f : ℕ → Option (List ℕ)) (ns : List ℕ) → before n f ≡ some ns
+    → (x : ℕ) × (n ≡ Number.Value x) × (joined x (f x) ≡ some ns)
+before-some Number.None f ns e = let z : _≡_ {A = ℕ} 0 1 = cc in absurd (omega arith)
+before-some (Number.Value x) f ns e = (x, refl, e)
+
+some-not : {x : List ℕ} → none ≡ some x → ⊥
+some-not e = let z : _≡_ {A = ℕ} 0 1 = cc in omega arith
+
+fits : (ts : List (List ℕ)) (k : ℕ) (wide : Bool) (shape ns : List ℕ) → fill (many k (itemOf wide) ++ shape) ts ≡ some ns
+    → (k ≤ length ns) × Fitted shape (drop k ns)
+unfolding fill
+fits [] zero wide [] ns e = let z : [] ≡ ns = cc in rw (← z) (omega arith, refl)
+fits [] zero wide (l ∷ shape) ns e = absurd (some-not e)
+fits [] (suc k) wide shape ns e = absurd (some-not e)
+fits (t ∷ ts) zero wide [] ns e = absurd (some-not e)
+fits (t ∷ ts) zero wide (l ∷ shape) ns e =
+    let b = before-some (numeral (mostOf l) t) (λ x. fill (unrolled l x ++ shape) ts) ns e in
+    let j = joined-some (b .0) (fill (unrolled l (b .0) ++ shape) ts) ns (b .2) in
+    let r = fits ts (itemsOf l (b .0)) (eqb l 76) shape (j .0) (j .1) in
+    rw (j .2) (omega arith, (numeral-most (mostOf l) t (b .0) (b .1), r .0, r .1))
+fits (t ∷ ts) (suc k) wide shape ns e =
+    let b = before-some (numeral (mostOf (itemOf wide)) t) (λ x. fill (unrolled (itemOf wide) x ++ (many k (itemOf wide) ++ shape)) ts) ns e in
+    let j = joined-some (b .0) (fill (unrolled (itemOf wide) (b .0) ++ (many k (itemOf wide) ++ shape)) ts) ns (b .2) in
+    let bare = ap (λ (l : List ℕ). fill (l ++ (many k (itemOf wide) ++ shape)) ts) (item-bare wide (b .0)) in
+    let r = fits ts k wide shape (j .0) (sym bare ∙ j .1) in
+    rw (j .2) (omega arith, r .1)
+
+places : (shape : List ℕ) (i : ℕ) (ns : List ℕ) → i ≤ length ns → Fitted shape (drop i ns) → Placed shape i ns
+places [] i ns h f = omega (arith, length-drop i ns)
+places (l ∷ shape) i ns h f = go (decLt i (length ns)) (places shape (i + 1 + itemsOf l (getD ns i 0)) ns)
+  where
+    x : ℕ
+    x = getD ns i 0
+
+    go : Dec (i < length ns) → (i + 1 + itemsOf l x ≤ length ns → Fitted shape (drop (i + 1 + itemsOf l x) ns) → Placed shape (i + 1 + itemsOf l x) ns)
+        → Placed (l ∷ shape) i ns
+    go (yes k) rest =
+        let g : Fitted (l ∷ shape) (x ∷ drop (suc i) ns) = subst (Fitted (l ∷ shape)) (drop-cons ns i 0 k) f in
+        let far : i + 1 + itemsOf l x ≤ length ns = omega (arith, length-drop (suc i) ns, g .1) in
+        let e : drop (itemsOf l x) (drop (suc i) ns) ≡ drop (i + 1 + itemsOf l x) ns =
+        drop-drop (itemsOf l x) (suc i) ns ∙ ap (λ (n : ℕ). drop (n + itemsOf l x) ns) (sym (add-one i)) in
+        (k, g .0, far, rest far (subst (Fitted shape) e (g .2)))
+    go (no n) rest = absurd (subst (Fitted (l ∷ shape)) (let far : length ns ≤ i = omega (arith, n) in drop-of-length-le ns far) f)
+
+-- the numbers of a line stand where its shape has them
+pub fill-placed : (shape : List ℕ) (ts : List (List ℕ)) (ns : List ℕ) → fill shape ts ≡ some ns → Placed shape 0 ns
+fill-placed shape ts ns e = places shape 0 ns (omega arith) (fits ts 0 true shape ns e .1)

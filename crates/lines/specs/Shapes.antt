@@ -1,0 +1,89 @@
+-- Shapes: which numbers a line has, and how many.
+use mathlib.Core.Path.{_≡_}
+use mathlib.Core.Bool.{Bool, cond}
+use mathlib.Core.Option.{Option, none, some}
+use mathlib.Core.List.{List, [], _∷_, _++_}
+use Prim.Native.Nat.{ℕ, zero, suc, _+_, _-_, _*_, _^_, _≤_, _<_}
+use lib.Dec.{eqb}
+use lib.ListN.{length, take, drop, getD, set}
+use Rattle.text.specs.declared.Number.{Number}
+use Rattle.text.specs.declared.Number.the-variants as Number
+use Rattle.text.specs.Numerals.{numeral}
+use Rattle.paper.specs.Words.{width}
+use Rattle.lines.specs.declared.shape.Counted.{Counted}
+use Rattle.lines.specs.declared.shape.Counted.the-variants as Counted
+use Rattle.lines.specs.declared.shape.Cursor.{Cursor}
+
+-- the most that the place of a letter holds: `w` (119) a word, any other letter 32 bits
+abbrev pub mostOf : ℕ → ℕ
+mostOf letter = cond (eqb letter 119) (2 ^ width - 1) (2 ^ 32 - 1)
+
+-- how many items follow the number at a letter: `L` (76) as many, `R` (82) three for each, any other none
+abbrev pub itemsOf : ℕ → ℕ → ℕ
+itemsOf letter x = cond (eqb letter 76) x (cond (eqb letter 82) (3 * x) 0)
+
+-- the letter of an item: a word, or a number
+abbrev pub itemOf : Bool → ℕ
+itemOf wide = cond wide 119 110
+
+-- a letter again and again
+abbrev pub many : ℕ → ℕ → List ℕ
+many zero letter = []
+many (suc n) letter = letter ∷ many n letter
+
+-- the letters of the items: words behind `L`
+abbrev pub unrolled : ℕ → ℕ → List ℕ
+unrolled letter x = many (itemsOf letter x) (itemOf (eqb letter 76))
+
+-- a number in front of numbers
+abbrev pub joined : ℕ → Option (List ℕ) → Option (List ℕ)
+joined x none = none
+joined x (some ns) = some (x ∷ ns)
+
+-- a number in front of those that its value asks for
+abbrev pub before : Number → (ℕ → Option (List ℕ)) → Option (List ℕ)
+before Number.None rest = none
+before (Number.Value x) rest = joined x (rest x)
+
+-- the numbers that the tokens are, if they fit the shape: each one's place holds it, none is missing and none is left over
+unfoldable pub fill : List ℕ → List (List ℕ) → Option (List ℕ)
+fill [] [] = some []
+fill (letter ∷ shape) [] = none
+fill [] (t ∷ ts) = none
+fill (letter ∷ shape) (t ∷ ts) = before (numeral (mostOf letter) t) (λ x. fill (unrolled letter x ++ shape) ts)
+
+-- a number stored at place i of a room, before those that its value asks for
+abbrev pub stored : Number → ℕ → List ℕ → (ℕ → List ℕ → List ℕ) → List ℕ
+stored Number.None i room rest = room
+stored (Number.Value x) i room rest = rest x (set room i x)
+
+-- what is left in a room: the numbers of the tokens from place i on, up to the first token that does not fit the shape
+unfoldable pub filled : ℕ → List ℕ → List ℕ → List (List ℕ) → List ℕ
+filled i room [] [] = room
+filled i room (letter ∷ shape) [] = room
+filled i room [] (t ∷ ts) = room
+filled i room (letter ∷ shape) (t ∷ ts) =
+    stored (numeral (mostOf letter) t) i room (λ x next. filled (i + 1) next (unrolled letter x ++ shape) ts)
+
+-- numbers that stand where a shape has them, the first of them at place i: each is there, its place holds it, and so are its items
+abbrev pub Placed : List ℕ → ℕ → List ℕ → Type 0
+Placed [] i ns = i ≡ length ns
+Placed (letter ∷ shape) i ns =
+    (i < length ns) × (getD ns i 0 ≤ mostOf letter) × (i + 1 + itemsOf letter (getD ns i 0) ≤ length ns)
+    × Placed shape (i + 1 + itemsOf letter (getD ns i 0)) ns
+
+-- ---- what the code's values mean
+
+-- the numbers that were read
+abbrev pub counted : Counted → List ℕ → Option (List ℕ)
+counted (Counted.All count) ns = some (take count ns)
+counted Counted.None ns = none
+
+-- how many
+abbrev pub held : Counted → ℕ
+held (Counted.All count) = count
+held Counted.None = 0
+
+-- the letters that are to come
+abbrev pub unread : Cursor → List ℕ → List ℕ
+unread c shape = many (c .left) (itemOf (c .wide)) ++ drop (c .at) shape

@@ -1,0 +1,2 @@
+-- The answers to the whole input.
+pub mod Talk

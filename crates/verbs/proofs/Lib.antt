@@ -1,0 +1,3 @@
+-- No laws: a verb's answer computes.
+-- The examples show it.
+mod Examples

@@ -1,0 +1,2 @@
+-- The verbs, and what each answers.
+pub mod Replies

@@ -1,0 +1,109 @@
+// The verbs of the console: their names and shapes in the table of `ask`, the call behind each, and its labels in the arms of `reply`.
+use answers::say;
+use lines::Line;
+use lines::parse;
+use paper::Word;
+use told::Told;
+use told::of_admission;
+use told::of_d0;
+use told::of_d1;
+use told::of_reading;
+use told::of_written;
+ghost use Prim.Native.Nat.{_+_, _*_, _≤_, _<_};
+ghost use mathlib.Core.Path.{_≡_};
+ghost use lib.ListN.{length};
+ghost use Rattle.paper.specs.Sheet.{admits};
+ghost use Rattle.paper.specs.Writing.{writes};
+ghost use Rattle.paper.specs.Reading.{reads};
+ghost use Rattle.paper.specs.Plate.{measuresD0, measuresD1};
+ghost use Rattle.text.specs.Bytes.{bytes};
+ghost use Rattle.text.specs.Tokens.{cut};
+ghost use Rattle.text.specs.Puts.{Put};
+ghost use Rattle.told.specs.Telling.{tells};
+ghost use Rattle.lines.specs.Shapes.{Placed};
+ghost use Rattle.lines.specs.Lines.{asked, askedIn, meant, used, shapeAt, roomLine};
+ghost use Rattle.verbs.specs.Replies.{table, sheetIn, arg, replied, roomReply};
+
+// `admit SHEET`.
+fn admit(ns: &[Word]) -> Told
+    requires { ⌜ Placed (bytes "nnnL") 0 (now ns) ⌝ }
+    ensures { λ r. ⌜ tells r ≡ admits (sheetIn (now (ns .entry))) ⌝ }
+{
+    let at = 4 + ns[3] as usize;
+    of_admission(store::admit(ns[0], ns[1], ns[2], &ns[4..at]))
+}
+
+// `write SHEET message stuck levels`.
+fn write(ns: &[Word]) -> Told
+    requires { ⌜ Placed (bytes "nnnLwww") 0 (now ns) ⌝ }
+    ensures { λ r. ⌜ tells r ≡ writes (sheetIn (now (ns .entry))) (arg (now (ns .entry)) 0) (arg (now (ns .entry)) 1) (arg (now (ns .entry)) 2) ⌝ }
+{
+    let at = 4 + ns[3] as usize;
+    of_written(store::write(
+        ns[0],
+        ns[1],
+        ns[2],
+        &ns[4..at],
+        ns[at],
+        ns[at + 1],
+        ns[at + 2],
+    ))
+}
+
+// `read SHEET y radius`.
+fn read(ns: &[Word]) -> Told
+    requires { ⌜ Placed (bytes "nnnLwn") 0 (now ns) ⌝ }
+    ensures { λ r. ⌜ tells r ≡ reads (sheetIn (now (ns .entry))) (arg (now (ns .entry)) 0) (arg (now (ns .entry)) 1) ⌝ }
+{
+    let at = 4 + ns[3] as usize;
+    of_reading(store::read(ns[0], ns[1], ns[2], &ns[4..at], ns[at], ns[at + 1]))
+}
+
+// `d0 SHEET cap`.
+fn d0(ns: &[Word]) -> Told
+    requires { ⌜ Placed (bytes "nnnLn") 0 (now ns) ⌝ }
+    ensures { λ r. ⌜ tells r ≡ measuresD0 (sheetIn (now (ns .entry))) (arg (now (ns .entry)) 0) ⌝ }
+{
+    let at = 4 + ns[3] as usize;
+    of_d0(store::measure_d0(ns[0], ns[1], ns[2], &ns[4..at], ns[at]))
+}
+
+// `d1 SHEET cap`.
+fn d1(ns: &[Word]) -> Told
+    requires { ⌜ Placed (bytes "nnnLn") 0 (now ns) ⌝ }
+    ensures { λ r. ⌜ tells r ≡ measuresD1 (sheetIn (now (ns .entry))) (arg (now (ns .entry)) 0) ⌝ }
+{
+    let at = 4 + ns[3] as usize;
+    of_d1(store::measure_d1(ns[0], ns[1], ns[2], &ns[4..at], ns[at]))
+}
+
+// Puts the text of the answer to a verb's call.
+pub fn reply(verb: usize, ns: &[Word], out: &mut [u8]) -> usize
+    requires { ⌜ Placed (shapeAt (cut 32 table) verb) 0 (now ns) ⌝ }
+    requires { ⌜ roomReply (now ns) ≤ length (now out) ⌝ }
+    ensures { λ r. ⌜ Put (now (out .entry)) 0 (replied verb (now (ns .entry))) r (now (out .exit)) ⌝ }
+    ensures { λ r. ⌜ r < roomReply (now (ns .entry)) ⌝ }
+{
+    match verb {
+        0 => say(out, 0, b"admitted", admit(ns)),
+        1 => say(out, 0, b"word | d ", write(ns)),
+        2 => say(out, 0, b"message | z | tried ", read(ns)),
+        3 => say(out, 0, b"distance | tried ", d0(ns)),
+        4 => say(out, 0, b"distance | tried | radius ", d1(ns)),
+        _ => 0,
+    }
+}
+
+// What a line asks for, by the table of the verbs: each verb's name and its shape.
+pub fn ask(line: &[u8], ns: &mut [Word]) -> Line
+    requires { ⌜ roomLine ≤ 2 * length (now ns) ⌝ }
+    ensures { λ r. ⌜ meant r (now (ns .exit)) ≡ asked table (now (line .entry)) ⌝ }
+    ensures { λ r. ⌜ used r ≤ length (now (ns .exit)) ⌝ }
+    ensures { λ _. ⌜ now (ns .exit) ≡ askedIn table (now (line .entry)) (now (ns .entry)) ⌝ }
+{
+    parse(
+        line,
+        b"admit nnnL write nnnLwww read nnnLwn d0 nnnLn d1 nnnLn",
+        ns,
+    )
+}
