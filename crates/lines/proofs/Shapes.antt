@@ -1,5 +1,5 @@
 -- Shapes as they are read, letter by letter, and the numbers that fit them.
--- `fill` cites the first part; the second says where each number stands (`fill-placed`).
+-- `fill` cites the first part; the second says where each number stands (`fill-stands`).
 use mathlib.Core.Path.{_≡_, refl, sym, ap, ap₂, _∙_, subst}
 use mathlib.Core.Bool.{Bool, true, false, cond}
 use mathlib.Core.Option.{Option, none, some}
@@ -18,7 +18,7 @@ use Rattle.text.specs.declared.Number.the-variants as Number
 use Rattle.text.specs.Numerals.{numeral}
 use Rattle.text.proofs.Numerals.{numeral-most}
 use Rattle.paper.specs.Words.{width}
-use Rattle.lines.specs.Shapes.{mostOf, itemsOf, itemOf, many, unrolled, joined, before, fill, stored, filled, Placed}
+use Rattle.lines.specs.Shapes.{mostOf, itemsOf, itemOf, many, unrolled, joined, before, fill, stored, filled, Stands}
 
 -- ---- the letters that are to come
 
@@ -184,7 +184,7 @@ stores numbers count x k = rw (add-one count) (take-suc-set numbers count x k)
 
 -- ---- numbers that fit a shape stand where it has them
 
--- the same as `Placed`, from the first number on
+-- the same as `Stands`, from the first number on
 abbrev Fitted : List ℕ → List ℕ → Type 0
 Fitted [] ns = length ns ≡ 0
 Fitted (letter ∷ shape) [] = ⊥
@@ -217,19 +217,19 @@ fits (t ∷ ts) zero wide (l ∷ shape) ns e =
 fits (t ∷ ts) (suc k) wide shape ns e =
     let b = before-some (numeral (mostOf (itemOf wide)) t) (λ x. fill (unrolled (itemOf wide) x ++ (many k (itemOf wide) ++ shape)) ts) ns e in
     let j = joined-some (b .0) (fill (unrolled (itemOf wide) (b .0) ++ (many k (itemOf wide) ++ shape)) ts) ns (b .2) in
-    let bare = ap (λ (l : List ℕ). fill (l ++ (many k (itemOf wide) ++ shape)) ts) (item-bare wide (b .0)) in
-    let r = fits ts k wide shape (j .0) (sym bare ∙ j .1) in
+    let trimmed = ap (λ (l : List ℕ). fill (l ++ (many k (itemOf wide) ++ shape)) ts) (item-bare wide (b .0)) in
+    let r = fits ts k wide shape (j .0) (sym trimmed ∙ j .1) in
     rw (j .2) (omega arith, r .1)
 
-places : (shape : List ℕ) (i : ℕ) (ns : List ℕ) → i ≤ length ns → Fitted shape (drop i ns) → Placed shape i ns
+places : (shape : List ℕ) (i : ℕ) (ns : List ℕ) → i ≤ length ns → Fitted shape (drop i ns) → Stands shape i ns
 places [] i ns h f = omega (arith, length-drop i ns)
 places (l ∷ shape) i ns h f = go (decLt i (length ns)) (places shape (i + 1 + itemsOf l (getD ns i 0)) ns)
   where
     x : ℕ
     x = getD ns i 0
 
-    go : Dec (i < length ns) → (i + 1 + itemsOf l x ≤ length ns → Fitted shape (drop (i + 1 + itemsOf l x) ns) → Placed shape (i + 1 + itemsOf l x) ns)
-        → Placed (l ∷ shape) i ns
+    go : Dec (i < length ns) → (i + 1 + itemsOf l x ≤ length ns → Fitted shape (drop (i + 1 + itemsOf l x) ns) → Stands shape (i + 1 + itemsOf l x) ns)
+        → Stands (l ∷ shape) i ns
     go (yes k) rest =
         let g : Fitted (l ∷ shape) (x ∷ drop (suc i) ns) = subst (Fitted (l ∷ shape)) (drop-cons ns i 0 k) f in
         let far : i + 1 + itemsOf l x ≤ length ns = omega (arith, length-drop (suc i) ns, g .1) in
@@ -239,5 +239,5 @@ places (l ∷ shape) i ns h f = go (decLt i (length ns)) (places shape (i + 1 + 
     go (no n) rest = absurd (subst (Fitted (l ∷ shape)) (let far : length ns ≤ i = omega (arith, n) in drop-of-length-le ns far) f)
 
 -- the numbers of a line stand where its shape has them
-pub fill-placed : (shape : List ℕ) (ts : List (List ℕ)) (ns : List ℕ) → fill shape ts ≡ some ns → Placed shape 0 ns
-fill-placed shape ts ns e = places shape 0 ns (omega arith) (fits ts 0 true shape ns e .1)
+pub fill-stands : (shape : List ℕ) (ts : List (List ℕ)) (ns : List ℕ) → fill shape ts ≡ some ns → Stands shape 0 ns
+fill-stands shape ts ns e = places shape 0 ns (omega arith) (fits ts 0 true shape ns e .1)

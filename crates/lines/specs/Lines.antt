@@ -70,10 +70,10 @@ module _ {A : Type 0} (other : A) (known : ℕ → List ℕ → List (List ℕ) 
   comes nothing table line = cond (isSilent line) nothing (cond (leb (length line) roomLine) (spelled table (cut 32 line)) other)
 
 -- a line without the carriage return (13) that may be its last byte: it belongs to the end of the line, as in a file with CR LF
-abbrev pub bare : List ℕ → List ℕ
-bare [] = []
-bare (b ∷ []) = cond (eqb b 13) [] (b ∷ [])
-bare (b ∷ c ∷ bs) = b ∷ bare (c ∷ bs)
+abbrev pub trimmed : List ℕ → List ℕ
+trimmed [] = []
+trimmed (b ∷ []) = cond (eqb b 13) [] (b ∷ [])
+trimmed (b ∷ c ∷ bs) = b ∷ trimmed (c ∷ bs)
 
 -- the call of a verb with the numbers that fit its shape
 abbrev pub calling : ℕ → List ℕ → List (List ℕ) → Asked
@@ -82,7 +82,7 @@ calling v shape ts = called v (fill shape ts)
 -- what a line asks for
 unfoldable pub asked : List ℕ → List ℕ → Asked
 unfolding comes
-asked table line = comes unknown calling silent table (bare line)
+asked table line = comes unknown calling silent table (trimmed line)
 
 -- the numbers of a call, in the room that is lent for them
 abbrev pub storing : List ℕ → ℕ → List ℕ → List (List ℕ) → List ℕ
@@ -91,7 +91,7 @@ storing room v shape ts = filled 0 room shape ts
 -- what asking leaves in that room
 unfoldable pub askedIn : List ℕ → List ℕ → List ℕ → List ℕ
 unfolding comes
-askedIn table line room = comes room (storing room) room table (bare line)
+askedIn table line room = comes room (storing room) room table (trimmed line)
 
 -- ---- what the code's values mean
 

@@ -66,11 +66,11 @@ filled i room (letter ∷ shape) (t ∷ ts) =
     stored (numeral (mostOf letter) t) i room (λ x next. filled (i + 1) next (unrolled letter x ++ shape) ts)
 
 -- numbers that stand where a shape has them, the first of them at place i: each is there, its place holds it, and so are its items
-abbrev pub Placed : List ℕ → ℕ → List ℕ → Type 0
-Placed [] i ns = i ≡ length ns
-Placed (letter ∷ shape) i ns =
+abbrev pub Stands : List ℕ → ℕ → List ℕ → Type 0
+Stands [] i ns = i ≡ length ns
+Stands (letter ∷ shape) i ns =
     (i < length ns) × (getD ns i 0 ≤ mostOf letter) × (i + 1 + itemsOf letter (getD ns i 0) ≤ length ns)
-    × Placed shape (i + 1 + itemsOf letter (getD ns i 0)) ns
+    × Stands shape (i + 1 + itemsOf letter (getD ns i 0)) ns
 
 -- ---- what the code's values mean
 

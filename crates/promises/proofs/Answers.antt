@@ -17,7 +17,7 @@ use Rattle.paper.specs.Plate.{mostCap, searchD0, searchD1, plateD0, plateD1, ca
 use Rattle.paper.specs.Promised.{Stuck}
 use Rattle.words.proofs.Cells.{cell-and, cell-above}
 use Rattle.words.proofs.Firsts.{none-below}
-use Rattle.rules.proofs.Rules.{tells, ofSheet, past, past-at}
+use Rattle.rules.proofs.Rules.{isRefusal, ofSheet, past, past-at}
 use Rattle.rules.proofs.Chains.{then-2, then-3}
 use Rattle.sheet.proofs.Verdicts.{admitted-next, past-judged}
 use Rattle.jobs.proofs.Breaches.{not-misplaced, capped-true}
@@ -42,7 +42,7 @@ word-passes s y h = none-below _ width (λ i l. go i (leb (s .n) i) refl)
 
 module _ (s : Sheet) where
   -- what is told of a write by none of the rules 1 to 8
-  pub write-told : (w stuck levels : ℕ) (t : Told) → ofSheet t ≡ false → tells 7 t ≡ false → tells 8 t ≡ false
+  pub write-told : (w stuck levels : ℕ) (t : Told) → ofSheet t ≡ false → isRefusal 7 t ≡ false → isRefusal 8 t ≡ false
       → (writes s w stuck levels ≡ t)
       ↔ (Admitted s × (w < 2 ^ s .k) × (first width (misplaced (s .n) stuck levels) ≡ nowhere)
       × (chosen s w (fitting s w stuck levels) ≡ t))
@@ -52,7 +52,7 @@ module _ (s : Sheet) where
       (past-at 8 _ (first width (misplaced (s .n) stuck levels)) 0 t h8) Iff·rfl
 
   -- what is told of a read by none of the rules 1 to 6, 10 and 11
-  pub read-told : (y radius : ℕ) (t : Told) → ofSheet t ≡ false → tells 10 t ≡ false → tells 11 t ≡ false
+  pub read-told : (y radius : ℕ) (t : Told) → ofSheet t ≡ false → isRefusal 10 t ≡ false → isRefusal 11 t ≡ false
       → (reads s y radius ≡ t)
       ↔ (Admitted s × (first width (strayCell (s .n) y) ≡ nowhere) × (radius ≤ mostRadius) × (heard s y (nearest s y radius) ≡ t))
   unfolding reads readsAdmitted
@@ -61,12 +61,12 @@ module _ (s : Sheet) where
       (past 11 _ (leb radius mostRadius) (leb-true radius mostRadius, le-leb radius mostRadius) t h11) Iff·rfl
 
   -- what is told of a measurement by none of the rules 1 to 6 and 11
-  pub measure-d0-told : (cap : ℕ) (t : Told) → ofSheet t ≡ false → tells 11 t ≡ false
+  pub measure-d0-told : (cap : ℕ) (t : Told) → ofSheet t ≡ false → isRefusal 11 t ≡ false
       → (measuresD0 s cap ≡ t) ↔ (Admitted s × ((1 ≤ cap) × (cap ≤ mostCap)) × (plateD0 (searchD0 s cap) ≡ t))
   unfolding measuresD0 measuresAdmittedD0
   measure-d0-told cap t h h11 = then-2 (past-judged s _ t h) (past 11 _ (capped cap) (capped-true cap) t h11) Iff·rfl
 
-  pub measure-d1-told : (cap : ℕ) (t : Told) → ofSheet t ≡ false → tells 11 t ≡ false
+  pub measure-d1-told : (cap : ℕ) (t : Told) → ofSheet t ≡ false → isRefusal 11 t ≡ false
       → (measuresD1 s cap ≡ t) ↔ (Admitted s × ((1 ≤ cap) × (cap ≤ mostCap)) × (plateD1 cap (searchD1 s cap) ≡ t))
   unfolding measuresD1 measuresAdmittedD1
   measure-d1-told cap t h h11 = then-2 (past-judged s _ t h) (past 11 _ (capped cap) (capped-true cap) t h11) Iff·rfl

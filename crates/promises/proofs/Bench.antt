@@ -21,7 +21,7 @@ kitchen = sheet 7 3 1 (49 ∷ 82 ∷ 100 ∷ 127 ∷ 27 ∷ 45 ∷ 78 ∷ 9 ∷ 
 abbrev pub attic : Sheet
 attic = sheet 3 1 2 (1 ∷ 3 ∷ 5 ∷ 7 ∷ [])
 
--- a call, and what it tells
+-- a call, and what it outcome
 pub data Call : Type 0 where
   write : Sheet → ℕ → ℕ → ℕ → Call
   read : Sheet → ℕ → ℕ → Call
@@ -30,13 +30,13 @@ pub data Call : Type 0 where
   -- no call, but what the attic's case says beside one: the word of a message and a d, and whether it fits (1) or not (0)
   word : Sheet → ℕ → ℕ → ℕ → ℕ → Call
 
--- what the definition of a call tells
-pub tells : Call → Told
-tells (write s message stuck levels) = writes s message stuck levels
-tells (read s y radius) = reads s y radius
-tells (d0 s cap) = measuresD0 s cap
-tells (d1 s cap) = measuresD1 s cap
-tells (word s message stuck levels d) = answer (wordOf s message d ∷ cond (fits stuck levels (wordOf s message d)) 1 0 ∷ [])
+-- what the definition of a call outcome
+pub outcome : Call → Told
+outcome (write s message stuck levels) = writes s message stuck levels
+outcome (read s y radius) = reads s y radius
+outcome (d0 s cap) = measuresD0 s cap
+outcome (d1 s cap) = measuresD1 s cap
+outcome (word s message stuck levels d) = answer (wordOf s message d ∷ cond (fits stuck levels (wordOf s message d)) 1 0 ∷ [])
 
 -- a row of the table
 pub record Case : Type 0 where
@@ -70,6 +70,6 @@ cases =
     ∷ []
 
 -- every row of the table holds
-pub bench : map (λ (row : Case). tells (row .call)) cases ≡ map (λ (row : Case). row .told) cases
-unfolding tells _gives_ cases writes writesAdmitted reads readsAdmitted measuresD0 measuresAdmittedD0 measuresD1 measuresAdmittedD1 searchD0 searchD1 nearest judged judgedRows judgedSums first weights listed search products sum _⊕_ ones
+pub bench : map (λ (row : Case). outcome (row .call)) cases ≡ map (λ (row : Case). row .told) cases
+unfolding outcome _gives_ cases writes writesAdmitted reads readsAdmitted measuresD0 measuresAdmittedD0 measuresD1 measuresAdmittedD1 searchD0 searchD1 nearest judged judgedRows judgedSums first weights listed search products sum _⊕_ ones
 bench = refl

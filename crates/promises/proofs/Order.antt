@@ -18,7 +18,7 @@ use Rattle.paper.specs.Writing.{wordOf, fits, misplaced, fitting, chosen, write
 use Rattle.paper.specs.Reading.{mostRadius, strayCell, nearest, heard, readsAdmitted, reads}
 use Rattle.paper.specs.Plate.{mostCap, searchD0, searchD1, plateD0, plateD1, capped, measuresAdmittedD0, measuresAdmittedD1, measuresD0, measuresD1}
 use Rattle.words.proofs.Firsts.{none-below, first-all}
-use Rattle.rules.proofs.Rules.{tells, ofSheet, not-told, either, either-at, past, past-at, own, own-at}
+use Rattle.rules.proofs.Rules.{isRefusal, ofSheet, not-told, either, either-at, past, past-at, own, own-at}
 use Rattle.rules.proofs.Chains.{then-1, then-2, then-3, last-3}
 use Rattle.sheet.proofs.Verdicts.{stray-row, code-row, message-row, G0-row, H-row, past-judged, sheet-told}
 use Rattle.jobs.proofs.Breaches.{capped-true}
@@ -44,20 +44,20 @@ module _ (s : Sheet) where
   from-2 = unlessAt (stray-row s) 2 0 from-3
 
   -- none tells a number that none of its rules has
-  other-6 : (m : ℕ) → eqb 6 m ≡ false → tells m from-6 ≡ false
-  other-6 m h = either-at 6 (answer []) (λ t. tells m t ≡ false) (H-row s) (s .k + s .l) (λ given. h) refl
+  other-6 : (m : ℕ) → eqb 6 m ≡ false → isRefusal m from-6 ≡ false
+  other-6 m h = either-at 6 (answer []) (λ t. isRefusal m t ≡ false) (H-row s) (s .k + s .l) (λ given. h) refl
 
-  other-5 : (m : ℕ) → eqb 5 m ≡ false → eqb 6 m ≡ false → tells m from-5 ≡ false
-  other-5 m h h6 = either-at 5 from-6 (λ t. tells m t ≡ false) (G0-row s) (s .k) (λ given. h) (other-6 m h6)
+  other-5 : (m : ℕ) → eqb 5 m ≡ false → eqb 6 m ≡ false → isRefusal m from-5 ≡ false
+  other-5 m h h6 = either-at 5 from-6 (λ t. isRefusal m t ≡ false) (G0-row s) (s .k) (λ given. h) (other-6 m h6)
 
-  other-4 : (m : ℕ) → eqb 4 m ≡ false → eqb 5 m ≡ false → eqb 6 m ≡ false → tells m from-4 ≡ false
-  other-4 m h h5 h6 = either-at 4 from-5 (λ t. tells m t ≡ false) (message-row s) 0 (λ given. h) (other-5 m h5 h6)
+  other-4 : (m : ℕ) → eqb 4 m ≡ false → eqb 5 m ≡ false → eqb 6 m ≡ false → isRefusal m from-4 ≡ false
+  other-4 m h h5 h6 = either-at 4 from-5 (λ t. isRefusal m t ≡ false) (message-row s) 0 (λ given. h) (other-5 m h5 h6)
 
-  other-3 : (m : ℕ) → eqb 3 m ≡ false → eqb 4 m ≡ false → eqb 5 m ≡ false → eqb 6 m ≡ false → tells m from-3 ≡ false
-  other-3 m h h4 h5 h6 = either-at 3 from-4 (λ t. tells m t ≡ false) (code-row s) 0 (λ given. h) (other-4 m h4 h5 h6)
+  other-3 : (m : ℕ) → eqb 3 m ≡ false → eqb 4 m ≡ false → eqb 5 m ≡ false → eqb 6 m ≡ false → isRefusal m from-3 ≡ false
+  other-3 m h h4 h5 h6 = either-at 3 from-4 (λ t. isRefusal m t ≡ false) (code-row s) 0 (λ given. h) (other-4 m h4 h5 h6)
 
-  other-2 : tells 1 from-2 ≡ false
-  other-2 = either-at 2 from-3 (λ t. tells 1 t ≡ false) (stray-row s) 0 (λ given. refl) (other-3 1 refl refl refl refl)
+  other-2 : isRefusal 1 from-2 ≡ false
+  other-2 = either-at 2 from-3 (λ t. isRefusal 1 t ≡ false) (stray-row s) 0 (λ given. refl) (other-3 1 refl refl refl refl)
 
   -- "n, k, l or the number of rows not as above"
   pub admit-1 : (admits s ≡ refusal 1 []) ↔ (shaped s ≡ false)
@@ -172,7 +172,7 @@ module _ (s : Sheet) where
     unfolding writes writesAdmitted
     write-7 =
         then-1 (past-judged s _ (refusal 7 []) refl)
-        (own 7 from-8 (ltb w (2 ^ s .k)) (ltb-false w (2 ^ s .k), le-ltb w (2 ^ s .k)) (either-8 (λ t. tells 7 t ≡ false) (λ given. refl) refl (λ values. refl)))
+        (own 7 from-8 (ltb w (2 ^ s .k)) (ltb-false w (2 ^ s .k), le-ltb w (2 ^ s .k)) (either-8 (λ t. isRefusal 7 t ≡ false) (λ given. refl) refl (λ values. refl)))
 
     -- 8: "a stuck or level bit at cell n or above, or a level bit at a cell not stuck", with "the lowest such cell"
     pub write-8 : (c : ℕ) → (writes s w stuck levels ≡ refusal 8 (c ∷ []))
@@ -182,7 +182,7 @@ module _ (s : Sheet) where
         let t : Told = refusal 8 (c ∷ []) in
         then-2 (past-judged s _ t refl)
         (past 7 _ (ltb w (2 ^ s .k)) (ltb-true w (2 ^ s .k), lt-ltb w (2 ^ s .k)) t refl)
-        (own-at 8 _ (first width (misplaced (s .n) stuck levels)) 0 c c (zero-add c) (either-9 (λ t. tells 8 t ≡ false) refl (λ values. refl)))
+        (own-at 8 _ (first width (misplaced (s .n) stuck levels)) 0 c c (zero-add c) (either-9 (λ t. isRefusal 8 t ≡ false) refl (λ values. refl)))
 
     -- 9: "no word of the message fits"
     pub write-9 : (writes s w stuck levels ≡ refusal 9 [])
@@ -220,14 +220,14 @@ module _ (s : Sheet) where
     unfolding reads readsAdmitted
     read-10 c =
         then-1 (past-judged s _ (refusal 10 (c ∷ [])) refl)
-        (own-at 10 _ (first width (strayCell (s .n) y)) 0 c c (zero-add c) (either-11 (λ t. tells 10 t ≡ false) refl (λ given. refl) (λ values. refl)))
+        (own-at 10 _ (first width (strayCell (s .n) y)) 0 c c (zero-add c) (either-11 (λ t. isRefusal 10 t ≡ false) refl (λ given. refl) (λ values. refl)))
 
     -- 11: "radius above 4"
     pub read-11 : (reads s y radius ≡ refusal 11 []) ↔ (Admitted s × (first width (strayCell (s .n) y) ≡ nowhere) × (mostRadius < radius))
     unfolding reads readsAdmitted
     read-11 =
         then-2 (past-judged s _ (refusal 11 []) refl) (past-at 10 _ (first width (strayCell (s .n) y)) 0 (refusal 11 []) refl)
-        (own 11 _ (leb radius mostRadius) (leb-false radius mostRadius, lt-leb radius mostRadius) (either-12 (λ t. tells 11 t ≡ false) (λ given. refl) (λ values. refl)))
+        (own 11 _ (leb radius mostRadius) (leb-false radius mostRadius, lt-leb radius mostRadius) (either-12 (λ t. isRefusal 11 t ≡ false) (λ given. refl) (λ values. refl)))
 
     -- 12: "no codeword within the radius", with the "number tried: all of the list"
     pub read-12 : (tried : ℕ) → (reads s y radius ≡ refusal 12 (tried ∷ []))
@@ -260,10 +260,10 @@ module _ (s : Sheet) where
   unfolding measuresD0 measuresAdmittedD0
   measure-d0-11 cap =
       then-1 (past-judged s _ (refusal 11 []) refl)
-      (own 11 _ (capped cap) (uncapped cap) (plateD0-answers (λ t. tells 11 t ≡ false) (λ v. refl) (λ v. refl) (searchD0 s cap)))
+      (own 11 _ (capped cap) (uncapped cap) (plateD0-answers (λ t. isRefusal 11 t ≡ false) (λ v. refl) (λ v. refl) (searchD0 s cap)))
 
   pub measure-d1-11 : (cap : ℕ) → (measuresD1 s cap ≡ refusal 11 []) ↔ (Admitted s × ((cap ≡ 0) ⊎ (mostCap < cap)))
   unfolding measuresD1 measuresAdmittedD1
   measure-d1-11 cap =
       then-1 (past-judged s _ (refusal 11 []) refl)
-      (own 11 _ (capped cap) (uncapped cap) (plateD1-answers (λ t. tells 11 t ≡ false) (λ v. refl) (λ v. refl) cap (searchD1 s cap)))
+      (own 11 _ (capped cap) (uncapped cap) (plateD1-answers (λ t. isRefusal 11 t ≡ false) (λ v. refl) (λ v. refl) cap (searchD1 s cap)))

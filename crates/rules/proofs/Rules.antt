@@ -19,10 +19,10 @@ use Rattle.words.proofs.Firsts.{at-nowhere}
 -- ---- what is told
 
 -- whether what is told is refusal m
-abbrev pub tells : ℕ → Told → Bool
-tells m (answer values) = false
-tells m (more values) = false
-tells m (refusal number given) = eqb number m
+abbrev pub isRefusal : ℕ → Told → Bool
+isRefusal m (answer values) = false
+isRefusal m (more values) = false
+isRefusal m (refusal number given) = eqb number m
 
 -- whether it is a refusal of the sheet: 1 to 6, which no other rule has
 abbrev pub ofSheet : Told → Bool
@@ -31,14 +31,14 @@ ofSheet (more values) = false
 ofSheet (refusal number given) = leb number 6
 
 -- what is no refusal of the sheet tells none of its numbers
-pub not-of-sheet : (number : ℕ) (t : Told) → number ≤ 6 → ofSheet t ≡ false → tells number t ≡ false
+pub not-of-sheet : (number : ℕ) (t : Told) → number ≤ 6 → ofSheet t ≡ false → isRefusal number t ≡ false
 not-of-sheet number (answer values) l h = refl
 not-of-sheet number (more values) l h = refl
 not-of-sheet number (refusal i given) l h = ne-eqb i number (λ e. omega (arith, leb-false i 6 h))
 
 -- refusal m is told by none that tells another
-pub not-told : {A : Type 0} {m : ℕ} {given : List ℕ} {t : Told} → refusal m given ≡ t → tells m t ≡ false → A
-not-told {m = m} e h = absurd (true≢false (sym (eq-eqb m m refl) ∙ ap (tells m) e ∙ h))
+pub not-told : {A : Type 0} {m : ℕ} {given : List ℕ} {t : Told} → refusal m given ≡ t → isRefusal m t ≡ false → A
+not-told {m = m} e h = absurd (true≢false (sym (eq-eqb m m refl) ∙ ap (isRefusal m) e ∙ h))
 
 -- ---- one rule and what comes next
 
@@ -52,22 +52,22 @@ module _ (number : ℕ) (next : Told) where
   either-at P nowhere base r n = n
   either-at P (at i) base r n = r ((base + i) ∷ [])
 
-  -- what another rule tells, or an answer: the rule was passed
-  pub past : {A : Type 0} (test : Bool) → ((test ≡ true) ↔ A) → (t : Told) → tells number t ≡ false → (unless test number next ≡ t) ↔ (A × (next ≡ t))
+  -- what another rule isRefusal, or an answer: the rule was passed
+  pub past : {A : Type 0} (test : Bool) → ((test ≡ true) ↔ A) → (t : Told) → isRefusal number t ≡ false → (unless test number next ≡ t) ↔ (A × (next ≡ t))
   past true i t h = (λ e. (i .0 refl, e), λ p. p .1)
   past false i t h = (λ e. not-told e h, λ p. absurd (true≢false (sym (i .1 (p .0)))))
 
-  pub past-at : (place : First) (base : ℕ) (t : Told) → tells number t ≡ false
+  pub past-at : (place : First) (base : ℕ) (t : Told) → isRefusal number t ≡ false
       → (unlessAt place number base next ≡ t) ↔ ((place ≡ nowhere) × (next ≡ t))
   past-at nowhere base t h = (λ e. (refl, e), λ p. p .1)
   past-at (at i) base t h = (λ e. not-told e h, λ p. at-nowhere refl (p .0))
 
-  -- what the rule tells, where none after it tells the same: the rule is broken
-  pub own : {A : Type 0} (test : Bool) → ((test ≡ false) ↔ A) → tells number next ≡ false → (unless test number next ≡ refusal number []) ↔ A
+  -- what the rule isRefusal, where none after it tells the same: the rule is broken
+  pub own : {A : Type 0} (test : Bool) → ((test ≡ false) ↔ A) → isRefusal number next ≡ false → (unless test number next ≡ refusal number []) ↔ A
   own true i h = (λ e. not-told (sym e) h, λ p. absurd (true≢false (i .1 p)))
   own false i h = (λ e. i .0 refl, λ p. refl)
 
-  pub own-at : (place : First) (base i c : ℕ) → base + i ≡ c → tells number next ≡ false
+  pub own-at : (place : First) (base i c : ℕ) → base + i ≡ c → isRefusal number next ≡ false
       → (unlessAt place number base next ≡ refusal number (c ∷ [])) ↔ (place ≡ at i)
   own-at nowhere base i c q h = (λ e. not-told (sym e) h, λ p. at-nowhere p refl)
   own-at (at j) base i c q h = (

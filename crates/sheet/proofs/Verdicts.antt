@@ -21,7 +21,7 @@ use Rattle.words.proofs.Products.{product-comm, cell-products, products-lt}
 use Rattle.words.proofs.Firsts.{first-all, any-all}
 use Rattle.elimination.proofs.Span.{All, Low}
 use Rattle.sheet.specs.Sound.{Shaped, Sound}
-use Rattle.rules.proofs.Rules.{tells, ofSheet, not-of-sheet, not-told, past, past-at}
+use Rattle.rules.proofs.Rules.{isRefusal, ofSheet, not-of-sheet, not-told, past, past-at}
 use Rattle.rules.proofs.Stages.{Stage, unless-stage, unlessAt-stage, then, refused-alike, alike-refused}
 
 -- ---- an admitted sheet passes each rule
@@ -55,7 +55,7 @@ pub record Passed (s : Sheet) : Type 0 where
 through : (s : Sheet) (next t : Told) → ofSheet t ≡ false → judged s next ≡ t → Passed s × (next ≡ t)
 unfolding judged judgedRows judgedSums
 through s next t h e =
-    let other : (i : ℕ) → i ≤ 6 → tells i t ≡ false = λ i l. not-of-sheet i t l h in
+    let other : (i : ℕ) → i ≤ 6 → isRefusal i t ≡ false = λ i l. not-of-sheet i t l h in
     let a = past 1 _ (shaped s) Iff·rfl t (other 1 (omega arith)) .0 e in
     let b = past-at 2 _ (stray-row s) 0 t (other 2 (omega arith)) .0 (a .1) in
     let c = past-at 3 _ (code-row s) 0 t (other 3 (omega arith)) .0 (b .1) in

@@ -76,7 +76,7 @@ pub fn parse_number(token: &[u8], most: u64) -> Number
 }
 
 // The smaller of two numbers.
-pub fn least(a: usize, b: usize) -> usize
+pub fn smaller(a: usize, b: usize) -> usize
     ensures { λ r. ⌜ r ≡ min a b ⌝ }
 {
     if a < b { a } else { b }
@@ -89,7 +89,7 @@ pub fn append(room: &mut [u8], used: usize, bytes: &[u8]) -> usize
     ensures { λ r. ⌜ take r (now (room .exit)) ≡ take (length (now (room .entry))) (take used (now (room .entry)) ++ now (bytes .entry)) ⌝ }
     ensures { λ r. ⌜ drop r (now (room .exit)) ≡ drop r (now (room .entry)) ⌝ }
 {
-    let count = least(room.len() - used, bytes.len());
+    let count = smaller(room.len() - used, bytes.len());
     let mut i = 0;
     while i < count {
         room[used + i] = bytes[i];
@@ -138,6 +138,6 @@ pub fn take_line(input: &[u8], from: usize, line: &mut [u8], held: usize) -> Tak
     Taken {
         ended: end < input.len(),
         held,
-        from: least(input.len(), end + 1),
+        from: smaller(input.len(), end + 1),
     }
 }

@@ -19,18 +19,18 @@ returns : tie.Need-returns
 returns c =
     let a = c .before .before .before .before .before .before .before .before .before .before .before .before .before .args in
     let t = a .t in (
-      put-text (ap (said (a .labels .now)) (values-are (t .number) (t .a) (t .b) (t .c) (t .count) (c .before .before .before .before .before .before .before .before .before .least .result) (c .before .before .before .before .before .before .before .before .before .least .ensures))
+      put-text (ap (said (a .labels .now)) (values-are (t .number) (t .a) (t .b) (t .c) (t .count) (c .before .before .before .before .before .before .before .before .before .smaller .result) (c .before .before .before .before .before .before .before .before .before .smaller .ensures))
           ∙ ap (λ (k : ℕ). spoken (a .labels .now) (toldBy k (t .number) (valuesOf t))) (let e : 0 ≡ t .kind = omega arith in e)) (c .before .before .say-labels .ensures .0),
-      omega (arith, c .before .before .say-labels .ensures .1, length-take (1 + c .before .before .before .before .before .before .before .before .before .least .result - 1) (t .a ∷ t .b ∷ t .c ∷ [])),
+      omega (arith, c .before .before .say-labels .ensures .1, length-take (1 + c .before .before .before .before .before .before .before .before .before .smaller .result - 1) (t .a ∷ t .b ∷ t .c ∷ [])),
     )
 
 returns-2 : tie.Need-returns-2
 returns-2 c =
     let a = c .before .before .before .before .before .before .before .before .before .before .before .before .before .before .before .before .args in
     let t = a .t in (
-      put-text (ap (said (bytes "more tried | radius ")) (values-are (t .number) (t .a) (t .b) (t .c) (t .count) (c .before .before .before .before .before .before .before .before .before .before .before .before .least .result) (c .before .before .before .before .before .before .before .before .before .before .before .before .least .ensures))
+      put-text (ap (said (bytes "more tried | radius ")) (values-are (t .number) (t .a) (t .b) (t .c) (t .count) (c .before .before .before .before .before .before .before .before .before .before .before .before .smaller .result) (c .before .before .before .before .before .before .before .before .before .before .before .before .smaller .ensures))
           ∙ ap (λ (k : ℕ). spoken (a .labels .now) (toldBy k (t .number) (valuesOf t))) (let e : 1 ≡ t .kind = omega arith in e)) (c .before .before .say-labels2 .ensures .0),
-      omega (arith, c .before .before .say-labels2 .ensures .1, length-take (1 + c .before .before .before .before .before .before .before .before .before .before .before .before .least .result - 1) (t .a ∷ t .b ∷ t .c ∷ [])),
+      omega (arith, c .before .before .say-labels2 .ensures .1, length-take (1 + c .before .before .before .before .before .before .before .before .before .before .before .before .smaller .result - 1) (t .a ∷ t .b ∷ t .c ∷ [])),
     )
 
 slice-aggregate-say-labels-3 : tie.Need-slice-aggregate-say-labels-3
@@ -43,9 +43,9 @@ returns-3 : tie.Need-returns-3
 returns-3 c =
     let a = c .before .before .before .before .before .before .before .before .before .before .before .before .before .before .before .args in
     let t = a .t in (
-      put-text (ap (said (bytes "refused | ")) (refused-are (t .number) (t .a) (t .b) (t .c) (t .count) (c .before .before .before .before .before .before .before .before .before .before .before .least .result) (c .before .before .before .before .before .before .before .before .before .before .before .least .ensures))
+      put-text (ap (said (bytes "refused | ")) (refused-are (t .number) (t .a) (t .b) (t .c) (t .count) (c .before .before .before .before .before .before .before .before .before .before .before .smaller .result) (c .before .before .before .before .before .before .before .before .before .before .before .smaller .ensures))
           ∙ sym (ap (spoken (a .labels .now)) (told-refused (t .kind) (t .number) (valuesOf t) (omega arith)))) (c .before .before .say-labels3 .ensures .0),
-      omega (arith, c .before .before .say-labels3 .ensures .1, length-take (1 + c .before .before .before .before .before .before .before .before .before .before .before .least .result) (t .number ∷ t .a ∷ t .b ∷ t .c ∷ [])),
+      omega (arith, c .before .before .say-labels3 .ensures .1, length-take (1 + c .before .before .before .before .before .before .before .before .before .before .before .smaller .result) (t .number ∷ t .a ∷ t .b ∷ t .c ∷ [])),
     )
 
 pub say-spec : {M : Type 1} → statement M

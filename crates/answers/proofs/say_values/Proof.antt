@@ -38,8 +38,8 @@ put-number-requires c κs =
     let e = c .before .before .before .before .before .before .before .end-of .result in
     omega (arith, end-in (c .before .before .before .before .before .before .before), c .before .before .before .before .put .ensures .ends, length-take (e - l .from) (drop (l .from) (c .before .before .before .before .before .before .before .before .before .before .before .before .before .args .labels .now)), l .inv)
 
-add-least : tie.Need-add-least Inv-loop μ-loop
-add-least c = omega (arith, end-in (c .before .before .before .before .before .before .before .before .before .before))
+add-smaller : tie.Need-add-smaller Inv-loop μ-loop
+add-smaller c = omega (arith, end-in (c .before .before .before .before .before .before .before .before .before .before))
 
 loop-again : tie.Need-loop-again Inv-loop μ-loop
 loop-again c =
@@ -57,11 +57,11 @@ loop-again c =
         both .ends,
         length-append (take (e .result - l .from) (drop (l .from) (a .labels .now))) (decimal (getD (a .values .now) (l .i) 0)),
         length-take (e .result - l .from) (drop (l .from) (a .labels .now)),
-        c .least .ensures,
+        c .smaller .ensures,
         l .inv,
       ),
-      put-step (labelled (drop (c .least .result) (a .labels .now)) (drop (l .i + 1) (a .values .now))) (l .inv .4)
-          (label-turn (a .labels .now) (a .values .now) (l .from) (e .result) (l .i) (c .least .result) (e .ensures) (omega arith) (c .least .ensures)) both,
+      put-step (labelled (drop (c .smaller .result) (a .labels .now)) (drop (l .i + 1) (a .values .now))) (l .inv .4)
+          (label-turn (a .labels .now) (a .values .now) (l .from) (e .result) (l .i) (c .smaller .result) (e .ensures) (omega arith) (c .smaller .ensures)) both,
       both .kept ∙ kept-behind (a .out .now) (l .out) (l .to) _ _ (both .ends) (l .inv .5),
     )
 
@@ -78,5 +78,5 @@ pub say-values-spec : {M : Type 1} → statement M
 say-values-spec =
     tie.close
     (tie.spec Inv-loop μ-loop (λ c. (omega arith, omega arith, refl, omega arith, refl, refl)) (λ c κs. search needs) (λ c. omega arith) (λ c. omega arith)
-    part-put-end put-requires (λ c. omega arith) (λ c. omega arith) put-number-requires add-least (λ c κs. search needs) (λ c. omega arith)
+    part-put-end put-requires (λ c. omega arith) (λ c. omega arith) put-number-requires add-smaller (λ c κs. search needs) (λ c. omega arith)
     (λ c. omega arith) loop-again (λ c. omega arith) returns)

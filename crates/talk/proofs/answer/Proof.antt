@@ -10,7 +10,7 @@ use Rattle.text.proofs.Puts.{put-text, put-nothing, put-join}
 use Rattle.lines.specs.declared.call.Line.{Line}
 use Rattle.lines.specs.declared.call.Line.the-variants as Line
 use Rattle.lines.specs.Lines.{asked, meant, used}
-use Rattle.lines.proofs.Lines.{asked-placed}
+use Rattle.lines.proofs.Lines.{asked-stands}
 use Rattle.verbs.specs.Replies.{table, reply}
 use Rattle.talk.proofs.answer.Statement.{statement}
 use Rattle.talk.proofs.answer.Tie as tie
@@ -42,7 +42,7 @@ reply-requires : tie.Need-reply-requires
 reply-requires c κs =
     let g = c .before .before .before .verb .given in
     let ns = c .before .before .before .before .before .before .before .ask .last .1 .0 in (
-      asked-placed table (c .before .before .before .before .before .before .before .before .before .before .before .before .args .line .now) (g .0 .0) (take (g .0 .1 .0) ns) (sym (means (c .before .before .before .before .before .before .before) (Line.Call (g .0 .0) (g .0 .1 .0)) (g .1))),
+      asked-stands table (c .before .before .before .before .before .before .before .before .before .before .before .before .args .line .now) (g .0 .0) (take (g .0 .1 .0) ns) (sym (means (c .before .before .before .before .before .before .before) (Line.Call (g .0 .0) (g .0 .1 .0)) (g .1))),
       omega (arith, length-take (g .0 .1 .0) ns, c .before .before .before .before .before .before .before .ask .kept, c .before .before .before .before .before .before .before .before .before .before .before .before .pre),
     )
 

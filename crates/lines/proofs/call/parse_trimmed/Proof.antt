@@ -1,12 +1,12 @@
--- `parse_bare` meets its contract: silent, too long, or what its tokens spell.
+-- `parse_trimmed` meets its contract: silent, too long, or what its tokens spell.
 -- It is what `parse` does behind the end of a line.
 use mathlib.Core.Path.{sym, _∙_}
 use borrow.Author.Needs.{needs}
 use native.Mathlib.Omega.{arith}
 use Rattle.lines.specs.Lines.{silent, unknown, calling, storing}
 use Rattle.lines.proofs.Lines.{comes-empty, comes-comment, comes-long, comes-spelled}
-use Rattle.lines.proofs.call.parse_bare.Statement.{statement}
-use Rattle.lines.proofs.call.parse_bare.Tie as tie
+use Rattle.lines.proofs.call.parse_trimmed.Statement.{statement}
+use Rattle.lines.proofs.call.parse_trimmed.Tie as tie
 
 returns : tie.Need-returns
 returns c = let a = c .before .before .before .before .args in (sym (comes-empty unknown calling silent (a .table .now) (a .line .now) (c .if1 .taken)), (omega arith, sym (comes-empty (a .numbers .now) (storing (a .numbers .now)) (a .numbers .now) (a .table .now) (a .line .now) (c .if1 .taken))))
@@ -27,7 +27,7 @@ returns-4 c =
       (p .ensures .1 .0, p .ensures .1 .1 ∙ sym (comes-spelled room (storing room) room (a .table .now) (a .line .now) (omega arith) other (omega arith))),
     )
 
-pub parse-bare-spec : {M : Type 1} → statement M
-parse-bare-spec =
+pub parse-trimmed-spec : {M : Type 1} → statement M
+parse-trimmed-spec =
     tie.close
     (tie.spec returns (λ c. search needs) returns-2 returns-3 (λ c κs. search needs) (λ c. search needs) returns-4)
