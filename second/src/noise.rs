@@ -174,7 +174,8 @@ fn padded_line(random: &mut Random) -> Vec<u8> {
     };
     let at = call.rfind(' ').expect("a space") + 1;
     let zeros = "0".repeat(length.saturating_sub(call.len()));
-    format!("{}{zeros}{}", &call[..at], &call[at..]).into_bytes()
+    let end = if random.once_in(4) { "\r" } else { "" };
+    format!("{}{zeros}{}{end}", &call[..at], &call[at..]).into_bytes()
 }
 
 /// More rows than any sheet has, with the right count; now and then as many as the room

@@ -128,6 +128,7 @@ def _():
     for length, wanted in ((4095, b"admitted\n"), (4096, b"admitted\n"), (65536, b"admitted\n"), (ROOM - 1, b"admitted\n"), (ROOM, b"admitted\n"), (ROOM + 1, b"unknown\n"), (ROOM + 2, b"unknown\n"), (3 * ROOM, b"unknown\n"), (1 << 20, b"unknown\n")):
         good(calls(padded(length) + WRITE), wanted + WORD)
         good(calls(WRITE + padded(length)[:-1]), WORD + wanted)
+        good(calls(padded(length)[:-1] + b"\r\n" + WRITE), wanted + WORD)
     good(calls(b"#" * (1 << 20) + b"\n" + WRITE + b"\xff\0" * ROOM + b"\n" + WRITE), WORD + b"unknown\n" + WORD)
 
 
