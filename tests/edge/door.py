@@ -41,6 +41,11 @@ def _():
     bad(Stand("echo one; kill -KILL $$").run(), b"one\n", "namestore: console was ended by signal KILL")
 
 
+@test("the door: a last word without a newline is passed on")
+def _():
+    same(Stand("printf 'no room' >&2").run(), (1, b"", b"no room\n"), "outcome")
+
+
 @test("the door: what it says before it is ended well is passed on, status 0")
 def _():
     same(Stand("echo odd >&2; printf . >&3").run(), (0, b"", b"odd\n"), "outcome")
@@ -195,6 +200,18 @@ def _():
     for env in ({"POSIXLY_CORRECT": "1"}, {"SHELLOPTS": "errexit:noclobber:posix"}, {"LC_ALL": "C"}, {"IFS": "/"}, {"HOME": "/nowhere", "TMPDIR": "/nowhere"}):
         good(Stand().run(data=b"one\n", env=env), b"one\n")
         bad(Stand("exec cat /nowhere").run(env=env), b"", "cat: ")
+
+
+@test("the door: a start that waits long for another's check says so, once")
+def _():
+    stand = Stand(check="sleep 6; echo 'rt: ok, 1 crates proved'")
+    first = stand.start(stdin=subprocess.DEVNULL)
+    holds(soon(lambda: os.path.exists(os.path.join(stand.checkout, "target/console.log"))), "the first did not start")
+    second = stand.start(stdin=subprocess.DEVNULL)
+    good(ended(first), b"")
+    stand.file("kit/check", "echo 'rt: ok, 1 crates proved'")
+    status, out, err = ended(second)
+    same((status, out, err.split(b",")[0], err.count(b"\n")), (0, b"", b"namestore: waiting for another start", 1), "outcome of the second")
 
 
 @test("the door: a signal while it waits for another's check ends it at once")
