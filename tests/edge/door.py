@@ -204,11 +204,11 @@ def _():
 
 @test("the door: target/ removed while starts check and wait")
 def _():
-    stand = Stand(check="mkdir -p target/log; sleep 0.6; mkdir ../busy 2>/dev/null || exit 1; sleep 0.1; rmdir ../busy; echo 'rt: ok, 1 crates proved'")
+    stand = Stand(check="mkdir -p target/log; sleep 0.4; mkdir ../busy 2>/dev/null || exit 1; sleep 0.1; rmdir ../busy; echo 'rt: ok, 1 crates proved'")
     first = stand.start(stdin=subprocess.DEVNULL)
     holds(soon(lambda: os.path.exists(os.path.join(stand.checkout, "target/console.log"))), "the first did not start")
     others = [stand.start(stdin=subprocess.DEVNULL) for _ in range(3)]
-    time.sleep(0.3)
+    time.sleep(0.2)
     shutil.rmtree(os.path.join(stand.checkout, "target"))
     stand.file("a checkout/target/bin/console", "printf . >&3")
     same(ended(first)[0], 1, "status of the one whose log is gone")
