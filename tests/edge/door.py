@@ -143,7 +143,7 @@ def _():
     stand = Stand(check="mkdir target/busy || exit 1; sleep 0.05; rmdir target/busy; echo 'rt: ok, 1 crates proved'")
     started = [stand.start(stdin=subprocess.DEVNULL) for _ in range(12)]
     for process in started:
-        good(ended(process), b"")
+        same(ended(process)[:2], (0, b""), "status and output")
 
 
 @test("the door: the lock by perl or python3 where flock is missing, and closed where all are")
@@ -218,7 +218,7 @@ def _():
 
 @test("the door: a start that waits long for another's check says so, once")
 def _():
-    stand = Stand(check="sleep 6; echo 'rt: ok, 1 crates proved'")
+    stand = Stand(check="sleep 4; echo 'rt: ok, 1 crates proved'")
     first = stand.start(stdin=subprocess.DEVNULL)
     holds(soon(lambda: os.path.exists(os.path.join(stand.checkout, "target/console.log"))), "the first did not start")
     second = stand.start(stdin=subprocess.DEVNULL)
