@@ -90,6 +90,9 @@ fn lines_that_are_no_calls() {
         "admit 3 1 2 4 1 3 5 7 ",
         "admit  3 1 2 4 1 3 5 7",
         "admit 3 1 2 4 1 3 5 7\r",
+        "\r",
+        "\radmit 3 1 2 4 1 3 5 7",
+        "admit\r 3 1 2 4 1 3 5 7",
         "admit 3 1 2 4 1 3 5",
         "admit 3 1 2 4 1 3 5 7 0",
         "admit 3 1 2 4294967295 1 3 5 7",
@@ -107,19 +110,24 @@ fn lines_that_are_no_calls() {
     assert_eq!(answer_line(b"\xff\x00\xfe").as_deref(), Some(UNKNOWN));
 }
 
-/// A line and a LIST that just fit the console's rooms are calls; one more is too many.
+/// A line that just fits the console's room is a call; a byte more is too many. A list
+/// of any length that fits is a call.
 #[test]
 fn room_of_the_console() {
     let tail = "1 1 0 2 0 1";
-    for (length, wanted) in [(ROOM_FOR_LINE, "refused 4 0"), (ROOM_FOR_LINE + 1, UNKNOWN)] {
+    for (length, wanted) in [
+        (4096, "refused 4 0"),
+        (ROOM_FOR_LINE, "refused 4 0"),
+        (ROOM_FOR_LINE + 1, UNKNOWN),
+    ] {
         let zeros = "0".repeat(length - "admit ".len() - tail.len());
         let line = format!("admit {zeros}{tail}");
         assert_eq!(line.len(), length);
         assert_eq!(answered(&line).as_deref(), Some(wanted));
     }
-    for (count, wanted) in [(ROOM_FOR_ROWS, "refused 1"), (ROOM_FOR_ROWS + 1, UNKNOWN)] {
+    for count in [0, 64, 257, 65_000] {
         let line = format!("admit 7 3 1 {count}{}", " 0".repeat(count));
-        assert_eq!(answered(&line).as_deref(), Some(wanted));
+        assert_eq!(answered(&line).as_deref(), Some("refused 1"));
     }
 }
 
@@ -130,6 +138,22 @@ fn whole_input() {
     let mut output = Vec::new();
     answer_all(&input[..], &mut output).expect("answers");
     let wanted = "distance 1 tried 1 radius 0\nunknown\nadmitted\n";
+    assert_eq!(String::from_utf8_lossy(&output), wanted);
+}
+
+/// One carriage return before a newline or the end of the input belongs to the end of
+/// the line, also of one that just fits the room; a second one does not.
+#[test]
+fn carriage_returns() {
+    let mut input =
+        b"admit 3 1 2 4 1 3 5 7\r\n\r\n# x\r\n\r\r\nadmit 3 1 2 4 1 3 5 7\r\r\n".to_vec();
+    let tail = "3 1 2 4 1 3 5 7\r\n";
+    let zeros = "0".repeat(ROOM_FOR_LINE + 2 - "admit ".len() - tail.len());
+    input.extend(format!("admit {zeros}{tail}admit {zeros}0{tail}").bytes());
+    input.extend(b"admit 3 1 2 4 1 3 5 7\r");
+    let mut output = Vec::new();
+    answer_all(&input[..], &mut output).expect("answers");
+    let wanted = "admitted\nunknown\nunknown\nadmitted\nunknown\nadmitted\n";
     assert_eq!(String::from_utf8_lossy(&output), wanted);
 }
 
