@@ -1,5 +1,7 @@
 // The console: reads calls from standard input, one a line, and writes one answer a line to standard output.
 // What a line is answered is in `talk`; here are the rooms, the pieces of the input, and the order of reads and writes.
+use lines::ROOM_LINE;
+use lines::ROOM_NUMBERS;
 use paper::Word;
 use streams::Got;
 use streams::end_well;
@@ -12,7 +14,7 @@ ghost use mathlib.Core.Bool.{true};
 ghost use mathlib.Core.List.{[]};
 ghost use lib.ListN.{length, take};
 ghost use Rattle.text.specs.Tokens.{Whole};
-ghost use Rattle.lines.specs.Lines.{roomLine};
+ghost use Rattle.lines.specs.Lines.{roomLine, roomNumbers};
 ghost use Rattle.talk.specs.Talk.{Rooms, Answered};
 
 // Writes an answer, and says whether it was written.
@@ -89,24 +91,24 @@ fn run(input: &mut [u8], line: &mut [u8], ns: &mut [Word], out: &mut [u8]) -> bo
 }
 
 // Room for a line: two bytes more than a call may have, so that with a carriage return a line that is too long is still seen to be.
-fn room_for_line() -> [u8; 131073]
+fn room_for_line() -> [u8; ROOM_LINE + 2]
     ensures { λ r. ⌜ 2 + roomLine ≡ length r ⌝ }
 {
-    [0; 131073]
+    [0; ROOM_LINE + 2]
 }
 
 // Room for the numbers of a line: each takes two bytes of it.
-fn room_for_numbers() -> [Word; 65536]
-    ensures { λ r. ⌜ 65536 ≡ length r ⌝ }
+fn room_for_numbers() -> [Word; ROOM_NUMBERS]
+    ensures { λ r. ⌜ roomNumbers ≡ length r ⌝ }
 {
-    [0; 65536]
+    [0; ROOM_NUMBERS]
 }
 
 // Room for one answer: its own text, and a list of all numbers of a line.
-fn room_for_answer() -> [u8; 1376416]
-    ensures { λ r. ⌜ 160 + 21 * 65536 ≡ length r ⌝ }
+fn room_for_answer() -> [u8; 160 + 21 * ROOM_NUMBERS]
+    ensures { λ r. ⌜ 160 + 21 * roomNumbers ≡ length r ⌝ }
 {
-    [0; 1376416]
+    [0; 160 + 21 * ROOM_NUMBERS]
 }
 
 // The rooms are made once. At a good end a byte is written to descriptor 3, for a caller that wants to know: a program has no exit status.

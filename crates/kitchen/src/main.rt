@@ -25,7 +25,7 @@ fn kitchen_rows() -> [Word; 10] {
 }
 
 // A word of text, a number after it, and what ends them. A line is two of these at most, of 30 bytes each.
-fn put_part(out: &mut [u8], at: usize, name: &[u8], number: u32, end: &[u8]) -> usize
+fn put_part(out: &mut [u8], at: usize, name: &[u8], number: Word, end: &[u8]) -> usize
     requires { ⌜ length (now name) + length (now end) ≤ 10 ⌝ }
     requires { ⌜ at + 30 ≤ length (now out) ⌝ }
     ensures { λ r. ⌜ r ≤ at + 30 ⌝ }
@@ -36,7 +36,7 @@ fn put_part(out: &mut [u8], at: usize, name: &[u8], number: u32, end: &[u8]) -> 
 }
 
 // One measured distance on its line.
-fn put_distance(out: &mut [u8], at: usize, name: &[u8], d: u32, tried: u32) -> usize
+fn put_distance(out: &mut [u8], at: usize, name: &[u8], d: Word, tried: Word) -> usize
     requires { ⌜ length (now name) ≤ 5 ⌝ }
     requires { ⌜ at + 60 ≤ length (now out) ⌝ }
     ensures { λ r. ⌜ r ≤ at + 60 ⌝ }

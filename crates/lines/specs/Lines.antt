@@ -22,6 +22,10 @@ pub data Asked : Type 0 where
 abbrev pub roomLine : ℕ
 roomLine = 131071
 
+-- the most numbers of such a line: each has a byte at least, and a space before it
+abbrev pub roomNumbers : ℕ
+roomNumbers = 65536
+
 -- an entry of the table, or none
 pub data Found : Type 0 where
   nowhere : Found

@@ -16,7 +16,7 @@ use text::same;
 // The most bytes that a call's line may have, without the newline.
 pub const ROOM_LINE: usize = 131071;
 
-// The most numbers that such a line has.
+// The most numbers that such a line has: each has a byte at least, and a space before it.
 pub const ROOM_NUMBERS: usize = 65536;
 
 // An entry of the table: its number, and the place and the size of its shape.

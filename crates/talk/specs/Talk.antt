@@ -25,7 +25,7 @@ pub record Stepped (begun rest text begun' rest' : List ℕ) : Type 0 where
   pub same : (later : List ℕ) → talk (begun ++ (rest ++ later)) ≡ text ++ talk (begun' ++ (rest' ++ later))
   pub whole : Whole 10 begun'
 
--- some text is the answer to what was taken: the texts of the steps, one after the other
+-- some text is the answer to what was taken, as the texts of several steps are, one after the other
 abbrev pub Answered : (begun rest begun' rest' : List ℕ) → Type 0
 Answered begun rest begun' rest' = (text : List ℕ) × Stepped begun rest text begun' rest'
 

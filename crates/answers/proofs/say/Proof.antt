@@ -17,20 +17,24 @@ use Rattle.answers.proofs.say.Tie as tie
 
 returns : tie.Need-returns
 returns c =
-    let a = c .before .before .before .before .before .before .before .before .before .before .before .before .before .args in
+    let c9 = c .before .before .before .before .before .before .before .before .before in
+    let c13 = c9 .before .before .before .before in
+    let a = c13 .args in
     let t = a .t in (
-      put-text (ap (said (a .labels .now)) (values-are (t .number) (t .a) (t .b) (t .c) (t .count) (c .before .before .before .before .before .before .before .before .before .smaller .result) (c .before .before .before .before .before .before .before .before .before .smaller .ensures))
+      put-text (ap (said (a .labels .now)) (values-are (t .number) (t .a) (t .b) (t .c) (t .count) (c9 .smaller .result) (c9 .smaller .ensures))
           ∙ ap (λ (k : ℕ). spoken (a .labels .now) (toldBy k (t .number) (valuesOf t))) (let e : 0 ≡ t .kind = omega arith in e)) (c .before .before .say-labels .ensures .0),
-      omega (arith, c .before .before .say-labels .ensures .1, length-take (1 + c .before .before .before .before .before .before .before .before .before .smaller .result - 1) (t .a ∷ t .b ∷ t .c ∷ [])),
+      omega (arith, c .before .before .say-labels .ensures .1, length-take (1 + c9 .smaller .result - 1) (t .a ∷ t .b ∷ t .c ∷ [])),
     )
 
 returns-2 : tie.Need-returns-2
 returns-2 c =
-    let a = c .before .before .before .before .before .before .before .before .before .before .before .before .before .before .before .before .args in
+    let c12 = c .before .before .before .before .before .before .before .before .before .before .before .before in
+    let c16 = c12 .before .before .before .before in
+    let a = c16 .args in
     let t = a .t in (
-      put-text (ap (said (bytes "more tried | radius ")) (values-are (t .number) (t .a) (t .b) (t .c) (t .count) (c .before .before .before .before .before .before .before .before .before .before .before .before .smaller .result) (c .before .before .before .before .before .before .before .before .before .before .before .before .smaller .ensures))
+      put-text (ap (said (bytes "more tried | radius ")) (values-are (t .number) (t .a) (t .b) (t .c) (t .count) (c12 .smaller .result) (c12 .smaller .ensures))
           ∙ ap (λ (k : ℕ). spoken (a .labels .now) (toldBy k (t .number) (valuesOf t))) (let e : 1 ≡ t .kind = omega arith in e)) (c .before .before .say-labels2 .ensures .0),
-      omega (arith, c .before .before .say-labels2 .ensures .1, length-take (1 + c .before .before .before .before .before .before .before .before .before .before .before .before .smaller .result - 1) (t .a ∷ t .b ∷ t .c ∷ [])),
+      omega (arith, c .before .before .say-labels2 .ensures .1, length-take (1 + c12 .smaller .result - 1) (t .a ∷ t .b ∷ t .c ∷ [])),
     )
 
 slice-aggregate-say-labels-3 : tie.Need-slice-aggregate-say-labels-3
@@ -41,15 +45,19 @@ say-labels-requires-3 c κs = simp length-take (omega arith)
 
 returns-3 : tie.Need-returns-3
 returns-3 c =
-    let a = c .before .before .before .before .before .before .before .before .before .before .before .before .before .before .before .args in
+    let c11 = c .before .before .before .before .before .before .before .before .before .before .before in
+    let c15 = c11 .before .before .before .before in
+    let a = c15 .args in
     let t = a .t in (
-      put-text (ap (said (bytes "refused | ")) (refused-are (t .number) (t .a) (t .b) (t .c) (t .count) (c .before .before .before .before .before .before .before .before .before .before .before .smaller .result) (c .before .before .before .before .before .before .before .before .before .before .before .smaller .ensures))
+      put-text (ap (said (bytes "refused | ")) (refused-are (t .number) (t .a) (t .b) (t .c) (t .count) (c11 .smaller .result) (c11 .smaller .ensures))
           ∙ sym (ap (spoken (a .labels .now)) (told-refused (t .kind) (t .number) (valuesOf t) (omega arith)))) (c .before .before .say-labels3 .ensures .0),
-      omega (arith, c .before .before .say-labels3 .ensures .1, length-take (1 + c .before .before .before .before .before .before .before .before .before .before .before .smaller .result) (t .number ∷ t .a ∷ t .b ∷ t .c ∷ [])),
+      omega (arith, c .before .before .say-labels3 .ensures .1, length-take (1 + c11 .smaller .result) (t .number ∷ t .a ∷ t .b ∷ t .c ∷ [])),
     )
 
 pub say-spec : {M : Type 1} → statement M
 say-spec =
     tie.close
-    (tie.spec (λ c. search needs) (λ c κs. search needs) (λ c. search needs) (λ c. search needs) (λ c. search needs) (λ c. search needs) (λ c. search needs) (λ c κs. search needs) (λ c. search needs) returns (λ c. search needs) (λ c. search needs) (λ c. search needs) (λ c. search needs) (λ c κs. search needs) (λ c. search needs) returns-2 (λ c. search needs) (λ c. search needs)
+    (tie.spec (λ c. search needs) (λ c κs. search needs) (λ c. search needs) (λ c. search needs) (λ c. search needs) (λ c. search needs)
+    (λ c. search needs) (λ c κs. search needs) (λ c. search needs) returns (λ c. search needs) (λ c. search needs) (λ c. search needs)
+    (λ c. search needs) (λ c κs. search needs) (λ c. search needs) returns-2 (λ c. search needs) (λ c. search needs)
     slice-aggregate-say-labels-3 say-labels-requires-3 (λ c. search needs) returns-3)

@@ -24,7 +24,9 @@ abbrev μ-loop : tie.MeasureT-loop
 
 -- the label's end lies within the labels
 end-in : (c : tie.After-end-of Inv-loop μ-loop) → c .end-of .result ≤ length (c .before .before .before .before .before .before .args .labels .now)
-end-in c = let l = c .before .before .loop in end-within 124 (c .before .before .before .before .before .before .args .labels .now) (l .from) (c .end-of .result) (l .inv .0) (c .end-of .ensures)
+end-in c =
+    let c6 = c .before .before .before .before .before .before in
+    let l = c .before .before .loop in end-within 124 (c6 .args .labels .now) (l .from) (c .end-of .result) (l .inv .0) (c .end-of .ensures)
 
 part-put-end : tie.Need-part-put-end Inv-loop μ-loop
 part-put-end c = end-in (c .before)
@@ -34,26 +36,35 @@ put-requires c κs = simp length-take (omega (arith, end-in (c .before .before),
 
 put-number-requires : tie.Need-put-number-requires Inv-loop μ-loop
 put-number-requires c κs =
-    let l = c .before .before .before .before .before .before .before .before .before .loop in
-    let e = c .before .before .before .before .before .before .before .end-of .result in
-    omega (arith, end-in (c .before .before .before .before .before .before .before), c .before .before .before .before .put .ensures .ends, length-take (e - l .from) (drop (l .from) (c .before .before .before .before .before .before .before .before .before .before .before .before .before .args .labels .now)), l .inv)
+    let c4 = c .before .before .before .before in
+    let c7 = c4 .before .before .before in
+    let c9 = c7 .before .before in
+    let c13 = c9 .before .before .before .before in
+    let l = c9 .loop in
+    let e = c7 .end-of .result in
+    omega (arith, end-in (c7), c4 .put .ensures .ends, length-take (e - l .from) (drop (l .from) (c13 .args .labels .now)), l .inv)
 
 add-smaller : tie.Need-add-smaller Inv-loop μ-loop
 add-smaller c = omega (arith, end-in (c .before .before .before .before .before .before .before .before .before .before))
 
 loop-again : tie.Need-loop-again Inv-loop μ-loop
 loop-again c =
-    let l = c .before .before .before .before .before .before .before .before .before .before .before .before .before .loop in
-    let a = c .before .before .before .before .before .before .before .before .before .before .before .before .before .before .before .before .before .args in
-    let e = c .before .before .before .before .before .before .before .before .before .before .before .end-of in
-    let both = put-join (c .before .before .before .before .before .before .before .before .put .ensures) (c .before .before .before .put-number .ensures) in
+    let c3 = c .before .before .before in
+    let c8 = c3 .before .before .before .before .before in
+    let c11 = c8 .before .before .before in
+    let c13 = c11 .before .before in
+    let c17 = c13 .before .before .before .before in
+    let l = c13 .loop in
+    let a = c17 .args in
+    let e = c11 .end-of in
+    let both = put-join (c8 .put .ensures) (c3 .put-number .ensures) in
     let few = decimal-le 20 (getD (a .values .now) (l .i) 0) in (
       omega arith,
       omega arith,
       omega arith,
       omega (
         arith,
-        end-in (c .before .before .before .before .before .before .before .before .before .before .before),
+        end-in (c11),
         both .ends,
         length-append (take (e .result - l .from) (drop (l .from) (a .labels .now))) (decimal (getD (a .values .now) (l .i) 0)),
         length-take (e .result - l .from) (drop (l .from) (a .labels .now)),
@@ -67,8 +78,9 @@ loop-again c =
 
 returns : tie.Need-returns Inv-loop μ-loop
 returns c =
+    let c5 = c .before .before .before .before .before in
     let l = c .before .loop in
-    let a = c .before .before .before .before .before .args in (
+    let a = c5 .args in (
       put-whole (omega arith) (omega arith)
           (l .inv .4 ∙ ap (λ (t : List ℕ). take (l .to) (l .out) ++ t) (label-end (drop (l .from) (a .labels .now)) (a .values .now) (l .i) (omega arith))) (l .inv .5),
       omega arith,

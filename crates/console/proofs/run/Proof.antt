@@ -24,11 +24,15 @@ slice-aggregate-take-in c = sym (length-take-le _ _ (omega arith))
 
 take-in-requires : tie.Need-take-in-requires Inv-loop μ-loop
 take-in-requires c κs =
-    let i = c .before .before .before .before .before .before .before .before .before .loop .inv in
-    (i .0, (i .5, rooms-kept (i .2) (i .3) (i .4) (c .before .before .before .before .before .before .before .before .before .before .before .before .before .before .pre .1)))
+    let c9 = c .before .before .before .before .before .before .before .before .before in
+    let c14 = c9 .before .before .before .before .before in
+    let i = c9 .loop .inv in
+    (i .0, (i .5, rooms-kept (i .2) (i .3) (i .4) (c14 .pre .1)))
 
 loop-again : tie.Need-loop-again Inv-loop μ-loop
-loop-again c = (omega arith, omega arith, omega arith, omega arith, omega arith, c .before .before .before .before .before .before .before .before .before .take-in .ensures .1 .0)
+loop-again c =
+    let c9 = c .before .before .before .before .before .before .before .before .before in
+    (omega arith, omega arith, omega arith, omega arith, omega arith, c9 .take-in .ensures .1 .0)
 
 pub run-spec : {M : Type 1} → statement M
 run-spec =

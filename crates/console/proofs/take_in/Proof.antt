@@ -26,13 +26,16 @@ apart e = let z : _≡_ {A = ℕ} 0 1 = cc in omega arith
 
 loop-holds : tie.Need-loop-holds Inv-loop μ-loop
 loop-holds c =
-    let a = c .before .before .before .before .args in
-    (omega arith, omega arith, refl, refl, refl, answered-none (take (a .held) (a .line .now)) (a .input .now) (c .before .before .before .before .pre .1 .0))
+    let c4 = c .before .before .before .before in
+    let a = c4 .args in
+    (omega arith, omega arith, refl, refl, refl, answered-none (take (a .held) (a .line .now)) (a .input .now) (c4 .pre .1 .0))
 
 take-step-requires : tie.Need-take-step-requires Inv-loop μ-loop
 take-step-requires c κs =
-    let i = c .before .before .before .before .loop .inv in
-    (omega arith, (i .1, (i .5 .1 .whole, rooms-kept (i .2) (i .3) (i .4) (c .before .before .before .before .before .before .before .before .before .pre .1 .1))))
+    let c4 = c .before .before .before .before in
+    let c9 = c4 .before .before .before .before .before in
+    let i = c4 .loop .inv in
+    (omega arith, (i .1, (i .5 .1 .whole, rooms-kept (i .2) (i .3) (i .4) (c9 .pre .1 .1))))
 
 slice-aggregate-write-answer : tie.Need-slice-aggregate-write-answer Inv-loop μ-loop
 slice-aggregate-write-answer c = sym (length-take-le _ _ (omega arith))
@@ -50,7 +53,8 @@ loop-again c =
 
 returns-2 : tie.Need-returns-2 Inv-loop μ-loop
 returns-2 c =
-    let a = c .before .before .before .before .before .before .args in
+    let c6 = c .before .before .before .before .before .before in
+    let a = c6 .args in
     let l = c .before .loop in
     let end : length (a .input .now) ≤ l .from = omega arith in (
       omega arith,
@@ -63,5 +67,6 @@ returns-2 c =
 pub take-in-spec : {M : Type 1} → statement M
 take-in-spec =
     tie.close
-    (tie.spec Inv-loop μ-loop loop-holds take-step-requires (λ c. omega arith) slice-aggregate-write-answer (λ c κs. search needs) (λ c. omega arith) (λ c. omega arith)
-    (λ c. omega arith) returns (λ c. omega arith) loop-again (λ c. omega arith) (λ c. omega arith) (λ c. omega arith) returns-2)
+    (tie.spec Inv-loop μ-loop loop-holds take-step-requires (λ c. omega arith) slice-aggregate-write-answer (λ c κs. search needs)
+    (λ c. omega arith) (λ c. omega arith) (λ c. omega arith) returns (λ c. omega arith) loop-again (λ c. omega arith) (λ c. omega arith)
+    (λ c. omega arith) returns-2)

@@ -16,5 +16,5 @@ abbrev μ-loop : tie.MeasureT-loop
 pub read-some-spec : {M : Type 1} → statement M
 read-some-spec =
     tie.close
-    (tie.spec Inv-loop μ-loop (λ c. refl) (λ c κs. search needs) (λ c. omega arith) (λ c. tt) (λ c κs. search needs) (λ c. omega arith) (λ c. tt) (λ c. omega arith)
-    (λ c. omega arith) (λ c. omega arith) (λ c. omega arith) (λ c. tt))
+    (tie.spec Inv-loop μ-loop (λ c. refl) (λ c κs. search needs) (λ c. omega arith) (λ c. tt) (λ c κs. search needs) (λ c. omega arith)
+    (λ c. tt) (λ c. omega arith) (λ c. omega arith) (λ c. omega arith) (λ c. omega arith) (λ c. tt))

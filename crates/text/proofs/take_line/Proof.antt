@@ -13,7 +13,9 @@ use Rattle.text.proofs.take_line.Tie as tie
 
 -- the line's end lies within the input
 end-in : (c : tie.After-end-of) → c .end-of .result ≤ length (c .before .before .before .args .input .now)
-end-in c = end-within 10 (c .before .before .before .args .input .now) (c .before .before .before .args .from) (c .end-of .result) (omega arith) (c .end-of .ensures)
+end-in c =
+    let c3 = c .before .before .before in
+    end-within 10 (c3 .args .input .now) (c3 .args .from) (c .end-of .result) (omega arith) (c .end-of .ensures)
 
 part-append-end : tie.Need-part-append-end
 part-append-end c = end-in (c .before)
@@ -23,8 +25,11 @@ add-smaller c = omega (arith, end-in (c .before .before .before .before .before)
 
 returns : tie.Need-returns
 returns c =
-    let a = c .before .before .before .before .before .before .before .before .before .args in
-    let e = c .before .before .before .before .before .before .end-of in
+    let c3 = c .before .before .before in
+    let c6 = c3 .before .before .before in
+    let c9 = c6 .before .before .before in
+    let a = c9 .args in
+    let e = c6 .end-of in
     let input = a .input .now in (
       ap (λ (k : ℕ). ltb k (length input)) (e .ensures),
       (
@@ -32,8 +37,8 @@ returns c =
         (
           omega arith,
           (
-            c .before .before .before .append .ensures .1 .0 ∙ ap (λ (l : List ℕ). take (length (a .line .now)) (take (a .held) (a .line .now) ++ l)) (token-upTo 10 input (a .from) (e .result) (e .ensures)),
-            c .before .before .before .append .ensures .1 .1,
+            c3 .append .ensures .1 .0 ∙ ap (λ (l : List ℕ). take (length (a .line .now)) (take (a .held) (a .line .now) ++ l)) (token-upTo 10 input (a .from) (e .result) (e .ensures)),
+            c3 .append .ensures .1 .1,
           ),
         ),
       ),

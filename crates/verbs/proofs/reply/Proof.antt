@@ -46,31 +46,43 @@ d1-requires c κs = placed (c .before .before .before .before .before) 4 (omega 
 
 returns : tie.Need-returns
 returns c =
+    let c3 = c .before .before .before in
+    let c9 = c3 .before .before .before .before .before .before in
     let s = c .before .before .say in
-    (put-text (ap (spoken (bytes "admitted")) (c .before .before .before .admit .ensures) ∙ is (c .before .before .before .before .before .before .before .before .before) 0 (omega arith)) (s .ensures .0), omega (arith, s .ensures .1))
+    (put-text (ap (spoken (bytes "admitted")) (c3 .admit .ensures) ∙ is (c9) 0 (omega arith)) (s .ensures .0), omega (arith, s .ensures .1))
 
 returns-2 : tie.Need-returns-2
 returns-2 c =
+    let c3 = c .before .before .before in
+    let c9 = c3 .before .before .before .before .before .before in
     let s = c .before .before .say2 in
-    (put-text (ap (spoken (bytes "word | d ")) (c .before .before .before .write .ensures) ∙ is (c .before .before .before .before .before .before .before .before .before) 1 (omega arith)) (s .ensures .0), omega (arith, s .ensures .1))
+    (put-text (ap (spoken (bytes "word | d ")) (c3 .write .ensures) ∙ is (c9) 1 (omega arith)) (s .ensures .0), omega (arith, s .ensures .1))
 
 returns-3 : tie.Need-returns-3
 returns-3 c =
+    let c3 = c .before .before .before in
+    let c9 = c3 .before .before .before .before .before .before in
     let s = c .before .before .say3 in
-    (put-text (ap (spoken (bytes "message | z | tried ")) (c .before .before .before .read .ensures) ∙ is (c .before .before .before .before .before .before .before .before .before) 2 (omega arith)) (s .ensures .0), omega (arith, s .ensures .1))
+    (put-text (ap (spoken (bytes "message | z | tried ")) (c3 .read .ensures) ∙ is (c9) 2 (omega arith)) (s .ensures .0), omega (arith, s .ensures .1))
 
 returns-4 : tie.Need-returns-4
 returns-4 c =
+    let c3 = c .before .before .before in
+    let c9 = c3 .before .before .before .before .before .before in
     let s = c .before .before .say4 in
-    (put-text (ap (spoken (bytes "distance | tried ")) (c .before .before .before .d0 .ensures) ∙ is (c .before .before .before .before .before .before .before .before .before) 3 (omega arith)) (s .ensures .0), omega (arith, s .ensures .1))
+    (put-text (ap (spoken (bytes "distance | tried ")) (c3 .d0 .ensures) ∙ is (c9) 3 (omega arith)) (s .ensures .0), omega (arith, s .ensures .1))
 
 returns-5 : tie.Need-returns-5
 returns-5 c =
+    let c3 = c .before .before .before in
+    let c9 = c3 .before .before .before .before .before .before in
     let s = c .before .before .say5 in
-    (put-text (ap (spoken (bytes "distance | tried | radius ")) (c .before .before .before .d1 .ensures) ∙ is (c .before .before .before .before .before .before .before .before .before) 4 (omega arith)) (s .ensures .0), omega (arith, s .ensures .1))
+    (put-text (ap (spoken (bytes "distance | tried | radius ")) (c3 .d1 .ensures) ∙ is (c9) 4 (omega arith)) (s .ensures .0), omega (arith, s .ensures .1))
 
 returns-6 : tie.Need-returns-6
-returns-6 c = (put-text (sym (ap (λ (f : List ℕ → List ℕ). f (c .before .before .before .args .ns .now)) (List·getD-eq-default verbs (λ ns. []) (let far : 5 ≤ c .before .before .before .args .verb = omega arith in far)))) (put-nothing (c .before .before .before .args .out .now) 0), omega arith)
+returns-6 c =
+    let c3 = c .before .before .before in
+    (put-text (sym (ap (λ (f : List ℕ → List ℕ). f (c3 .args .ns .now)) (List·getD-eq-default verbs (λ ns. []) (let far : 5 ≤ c3 .args .verb = omega arith in far)))) (put-nothing (c3 .args .out .now) 0), omega arith)
 
 pub reply-spec : {M : Type 1} → statement M
 reply-spec =

@@ -14,9 +14,11 @@ slice-aggregate-parse-trimmed c = sym (length-take-le _ _ (omega arith))
 
 returns : tie.Need-returns
 returns c =
-    let a = c .before .before .before .before .before .before .before .before .before .args in
+    let c5 = c .before .before .before .before .before in
+    let c9 = c5 .before .before .before .before in
+    let a = c9 .args in
     let p = c .before .before .parse-trimmed in
-    let end = c .before .before .before .before .before .trimmed-end .ensures .0 in
+    let end = c5 .trimmed-end .ensures .0 in
     let room = a .numbers .now in (
       p .ensures .0 ∙ ap (comes unknown calling silent (a .table .now)) end ∙ sym (asked-trimmed (a .table .now) (a .line .now)),
       (p .ensures .1 .0, p .ensures .1 .1 ∙ ap (comes room (storing room) room (a .table .now)) end ∙ sym (askedIn-trimmed (a .table .now) (a .line .now) room)),
