@@ -1,4 +1,5 @@
--- The searches of the calls are the one search of the listing, with the test that each asks for. Assumes nothing.
+-- The searches of the calls are the one search of the listing, with the test that each asks for.
+-- For reading and the two measurements. Assumes nothing.
 use mathlib.Core.Path.{_≡_, ap, ap₂, _∙_}
 use mathlib.Core.Bool.{Bool, not, _&&_}
 use mathlib.Core.List.{List, []}

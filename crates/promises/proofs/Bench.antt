@@ -1,4 +1,5 @@
 -- The starred cases of document 01: one table of calls and what they tell, and one claim over its rows, of the definitions.
+-- So a reader sees the definitions answer as document 01 says. Assumes nothing.
 use mathlib.Core.Path.{_≡_, refl}
 use mathlib.Core.Bool.{cond}
 use mathlib.Core.List.{List, [], _∷_, map}

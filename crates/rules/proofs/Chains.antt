@@ -1,4 +1,5 @@
--- What one rule and those after it say, chained. For the order of refusals, and for what an answer says. Assumes nothing.
+-- What one rule and those after it say, chained.
+-- For the order of refusals, and for what an answer says. Assumes nothing.
 use mathlib.Core.Logic.{_↔_}
 
 -- what one rule and those after it say, with what they say made plain: two, three and four in all

@@ -1,4 +1,5 @@
--- Tests of the code, said of what the definitions test. Assumes nothing.
+-- Tests of the code, said of what the definitions test.
+-- For the loops that judge a sheet. Assumes nothing.
 use mathlib.Core.Path.{_≡_, sym, ap, _∙_}
 use mathlib.Core.Bool.{Bool, true, false}
 use mathlib.Core.List.{List}

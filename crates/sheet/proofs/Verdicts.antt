@@ -1,4 +1,5 @@
--- What the verdict on a sheet says: a refused sheet is refused by every call alike, and an admitted one is sound. Assumes nothing.
+-- What the verdict on a sheet says: a refused sheet is refused by every call alike, and an admitted one is sound.
+-- Every call and every theorem starts from these. Assumes nothing.
 use mathlib.Core.Path.{_≡_, refl, sym, ap, _∙_, subst}
 use mathlib.Core.Bool.{Bool, true, false, cond, not, _&&_, true≢false, and-eq-true-iff}
 use mathlib.Core.Logic.{_↔_, Iff·rfl}

@@ -1,4 +1,5 @@
--- The sum of two words: a group, cell by cell and within the same cells; and the weight of a sum. Assumes nothing.
+-- The sum of two words: a group, cell by cell and within the same cells; and the weight of a sum.
+-- For everything that adds words: `simp sums` proves their identities. Assumes nothing.
 use mathlib.Core.Path.{_≡_, refl, sym, ap, ap₂, _∙_, subst}
 use mathlib.Core.Bool.{cond}
 use mathlib.Core.Logic.{_⊎_, inl, inr, _↔_, ⊎-elim}
