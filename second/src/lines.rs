@@ -4,13 +4,9 @@ use crate::calls::{admitting, d0, d1, read, write, Answer, Measured};
 use crate::sheet::{Refusal, Sheet};
 use std::io::{self, BufRead, Write};
 
-/// The room of the console for lent rows: a LIST with a larger count is no call. The
-/// widest admitted sheet (n 32, k 32) has 64 rows; a longer list is refused with 1.
-pub const ROOM_FOR_ROWS: usize = 256;
-
-/// The room of the console for a line, its newline not counted: a longer line is no
-/// call. A whole call for 256 rows of 10 digits fits.
-pub const ROOM_FOR_LINE: usize = 4095;
+/// The room of the console for a line, its end not counted: a longer line is no call.
+/// A list may have any length that fits.
+pub const ROOM_FOR_LINE: usize = 131_071;
 
 /// What a line is answered that is no call.
 const UNKNOWN: &str = "unknown";
@@ -20,10 +16,7 @@ const UNKNOWN: &str = "unknown";
 pub fn answer_all(mut input: impl BufRead, mut output: impl Write) -> io::Result<()> {
     let mut line = Vec::new();
     while input.read_until(b'\n', &mut line)? != 0 {
-        if line.last() == Some(&b'\n') {
-            line.pop();
-        }
-        if let Some(answer) = answer_line(&line) {
+        if let Some(answer) = answer_line(without_end(&line)) {
             writeln!(output, "{answer}")?;
         }
         line.clear();
@@ -31,7 +24,14 @@ pub fn answer_all(mut input: impl BufRead, mut output: impl Write) -> io::Result
     output.flush()
 }
 
-/// The answer to one line without its newline. "Empty lines and lines that begin with
+/// A line without its end: the newline, if it has one, and one carriage return right
+/// before the newline or the end of the input.
+fn without_end(line: &[u8]) -> &[u8] {
+    let line = line.strip_suffix(b"\n").unwrap_or(line);
+    line.strip_suffix(b"\r").unwrap_or(line)
+}
+
+/// The answer to one line without its end. "Empty lines and lines that begin with
 /// `#` are no calls and get no answer."
 pub fn answer_line(line: &[u8]) -> Option<String> {
     if line.is_empty() || line[0] == b'#' {
@@ -88,7 +88,7 @@ fn sheet_and_rest(numbers: &[u32]) -> Option<(Sheet, &[u32])> {
         return None;
     };
     let count = *count as usize;
-    if count > ROOM_FOR_ROWS || count > after.len() {
+    if count > after.len() {
         return None;
     }
     let (rows, rest) = after.split_at(count);
@@ -130,5 +130,4 @@ fn measured_text(measured: Measured) -> String {
 }
 
 #[cfg(test)]
-#[path = "bench.rs"]
-mod bench;
+mod tests;

@@ -1,6 +1,7 @@
 //! The second program: it answers the calls of the name store on its own, straight from
 //! the definitions of document 01, and makes cases on which the two are compared.
 
+mod asking;
 mod breaking;
 mod calls;
 mod cases;

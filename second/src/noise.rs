@@ -1,13 +1,13 @@
 //! Lines that are no calls, or hardly calls: they get no answer, `unknown`, or, at the
 //! very edge of what a call may be, the answer of a call.
 
-use crate::cases::good_call;
-use crate::lines::{ROOM_FOR_LINE, ROOM_FOR_ROWS};
+use crate::asking::good_call;
+use crate::lines::ROOM_FOR_LINE;
 use crate::random::Random;
 
 /// One line of noise.
 pub fn noise_line(random: &mut Random) -> Vec<u8> {
-    match random.below(12) {
+    match random.below(13) {
         0 => silent_line(random),
         1 => wrong_verb(random),
         2..=4 => wrong_token(random),
@@ -15,7 +15,8 @@ pub fn noise_line(random: &mut Random) -> Vec<u8> {
         6 | 7 => wrong_count(random),
         8 => wrong_space(random),
         9 => padded_line(random),
-        10 => too_many_rows(random),
+        10 => many_rows(random),
+        11 => carriage_return(random),
         _ => garbage(random),
     }
 }
@@ -33,9 +34,11 @@ fn joined(tokens: Vec<String>) -> Vec<u8> {
 /// An empty line or a comment, which get no answer.
 fn silent_line(random: &mut Random) -> Vec<u8> {
     let call = good_call(random);
-    match random.below(4) {
+    match random.below(6) {
         0 | 1 => vec![],
         2 => b"#".to_vec(),
+        3 => b"\r".to_vec(),
+        4 => format!("# {call}\r").into_bytes(),
         _ => format!("# {call}").into_bytes(),
     }
 }
@@ -126,14 +129,13 @@ fn wrong_count(random: &mut Random) -> Vec<u8> {
 /// A call with a space too many, or with something else at the place of a space.
 fn wrong_space(random: &mut Random) -> Vec<u8> {
     let call = good_call(random);
-    let line = match random.below(8) {
+    let line = match random.below(7) {
         0 => format!(" {call}"),
         1 => format!("{call} "),
         2 => call.replacen(' ', "  ", 1),
-        3 => format!("{call}\r"),
-        4 => call.replacen(' ', "\t", 1),
-        5 => " ".to_string(),
-        6 => format!("0 {call}"),
+        3 => call.replacen(' ', "\t", 1),
+        4 => " ".to_string(),
+        5 => format!("0 {call}"),
         _ => {
             let at = call.rfind(' ').expect("a space");
             format!("{} {}", &call[..at], &call[at..])
@@ -142,25 +144,51 @@ fn wrong_space(random: &mut Random) -> Vec<u8> {
     line.into_bytes()
 }
 
-/// A call whose last number is padded with zeros to the room for a line, or past it.
+/// A call with a carriage return: one at the line's end, which belongs to that end, or
+/// another, which does not.
+fn carriage_return(random: &mut Random) -> Vec<u8> {
+    let call = good_call(random);
+    let line = match random.below(6) {
+        0..=2 => format!("{call}\r"),
+        3 => format!("{call}\r\r"),
+        4 => format!("\r{call}"),
+        _ => {
+            let at = random.below(call.len() as u64) as usize;
+            format!("{}\r{}", &call[..at], &call[at..])
+        }
+    };
+    line.into_bytes()
+}
+
+/// A call whose last number is padded with zeros to some length; now and then to the
+/// room for a line, or past it.
 fn padded_line(random: &mut Random) -> Vec<u8> {
     let call = good_call(random);
-    let length = match random.below(4) {
+    let length = match random.below(40) {
         0 => ROOM_FOR_LINE - 1,
         1 => ROOM_FOR_LINE,
         2 => ROOM_FOR_LINE + 1,
-        _ => ROOM_FOR_LINE + 1 + random.below(4000) as usize,
+        3 => ROOM_FOR_LINE + 1 + random.below(4000) as usize,
+        4..=9 => 4094 + random.below(4) as usize,
+        _ => 1000 + random.below(9000) as usize,
     };
     let at = call.rfind(' ').expect("a space") + 1;
-    let zeros = "0".repeat(length - call.len());
-    format!("{}{zeros}{}", &call[..at], &call[at..]).into_bytes()
+    let zeros = "0".repeat(length.saturating_sub(call.len()));
+    let end = if random.once_in(4) { "\r" } else { "" };
+    format!("{}{zeros}{}{end}", &call[..at], &call[at..]).into_bytes()
 }
 
-/// As many rows as there is room for, or one or some more, with the right count.
-fn too_many_rows(random: &mut Random) -> Vec<u8> {
-    let more = random.one_of(&[0, 1, 2, 36]);
-    let count = ROOM_FOR_ROWS + more;
-    let rows = (0..count).map(|_| format!(" {}", random.below(128)));
+/// More rows than any sheet has, with the right count; now and then as many as the room
+/// for a line has, or more.
+fn many_rows(random: &mut Random) -> Vec<u8> {
+    let most = ((ROOM_FOR_LINE - "admit 32 32 0 65000".len()) / " 0".len()) as u64;
+    let count = match random.below(40) {
+        0 => most - random.below(4),
+        1 => most + 1 + random.below(4),
+        _ => 65 + random.below(400),
+    };
+    let row = if count > 1000 { 1 } else { 128 };
+    let rows = (0..count).map(|_| format!(" {}", random.below(row)));
     let line = format!("admit 32 32 0 {count}{}", rows.collect::<String>());
     line.into_bytes()
 }

@@ -1,6 +1,6 @@
 //! A small family of calls with nothing left out: all sheets of up to 3 cells.
 
-use crate::cases::call_text;
+use crate::asking::{call_text, Verb};
 use crate::making::attic;
 use crate::sheet::{admit, Sheet};
 use std::io::{self, Write};
@@ -31,7 +31,7 @@ fn calls_of_shape(n: u32, k: u32, l: u32) -> Vec<String> {
     let mut lines = Vec::new();
     if n < 3 {
         let sheets = all_sheets(n, k, l, (1 << n) + 1);
-        lines.extend(sheets.map(|sheet| call_text("admit", &sheet, &[])));
+        lines.extend(sheets.map(|sheet| call_text(Verb::Admit, &sheet, &[])));
     }
     let admitted = all_sheets(n, k, l, 1 << n).filter(|sheet| admit(sheet).is_ok());
     for (place, sheet) in admitted.enumerate() {
@@ -56,10 +56,10 @@ fn all_sheets(n: u32, k: u32, l: u32, limit: u32) -> impl Iterator<Item = Sheet>
 
 /// Admission, and both distances at caps 1 to 4.
 fn measurements(sheet: &Sheet) -> Vec<String> {
-    let mut lines = vec![call_text("admit", sheet, &[])];
+    let mut lines = vec![call_text(Verb::Admit, sheet, &[])];
     for cap in 1..=4 {
-        lines.push(call_text("d0", sheet, &[cap]));
-        lines.push(call_text("d1", sheet, &[cap]));
+        lines.push(call_text(Verb::D0, sheet, &[cap]));
+        lines.push(call_text(Verb::D1, sheet, &[cap]));
     }
     lines
 }
@@ -71,13 +71,13 @@ fn writes_and_reads(sheet: &Sheet) -> Vec<String> {
     for message in 0..1 << sheet.k {
         for stuck in 0..words {
             for levels in 0..words {
-                lines.push(call_text("write", sheet, &[message, stuck, levels]));
+                lines.push(call_text(Verb::Write, sheet, &[message, stuck, levels]));
             }
         }
     }
     for y in 0..words {
         for radius in 0..=sheet.n {
-            lines.push(call_text("read", sheet, &[y, radius]));
+            lines.push(call_text(Verb::Read, sheet, &[y, radius]));
         }
     }
     lines

@@ -5,10 +5,10 @@ ghost use Rattle.text.specs.Puts.{Put};
 ghost use Rattle.told.specs.Telling.{tells};
 ghost use Rattle.answers.specs.Answers.{said, labelled, spoken};
 use text::end_of;
-use text::least;
 use text::put;
 use text::put_number;
-use told::Told;
+use text::smaller;
+use told::Numbers;
 
 // Puts values behind their labels, which bars separate.
 fn say_values(out: &mut [u8], at: usize, labels: &[u8], values: &[u64]) -> usize
@@ -23,7 +23,7 @@ fn say_values(out: &mut [u8], at: usize, labels: &[u8], values: &[u64]) -> usize
         let end = end_of(labels, from, b'|');
         let named = put(out, to, &labels[from..end]);
         to = put_number(out, named, values[i]);
-        from = least(labels.len(), end + 1);
+        from = smaller(labels.len(), end + 1);
         i += 1;
     }
     to
@@ -42,12 +42,12 @@ fn say_labels(out: &mut [u8], at: usize, labels: &[u8], values: &[u64]) -> usize
 }
 
 // Puts what a call told, its values behind the labels of its verb.
-pub fn say(out: &mut [u8], at: usize, labels: &[u8], t: Told) -> usize
+pub fn say(out: &mut [u8], at: usize, labels: &[u8], t: Numbers) -> usize
     requires { ⌜ at + length (now labels) + 100 ≤ length (now out) ⌝ }
     ensures { λ r. ⌜ Put (now (out .entry)) at (spoken (now (labels .entry)) (tells t)) r (now (out .exit)) ⌝ }
     ensures { λ r. ⌜ r ≤ at + length (now (labels .entry)) + 100 ⌝ }
 {
-    let count = least(t.count as usize, 3);
+    let count = smaller(t.count as usize, 3);
     let values = [t.number as u64, t.a, t.b, t.c];
     let end = 1 + count;
     if t.kind == 0 {

@@ -9,33 +9,43 @@ ghost use lib.ListN.{length, getD};
 ghost use Rattle.paper.specs.First.{first};
 ghost use Rattle.paper.specs.Words.{width, sum};
 ghost use Rattle.paper.specs.Sheet.{dependent};
-ghost use Rattle.words.specs.Places.{placed};
+ghost use Rattle.words.specs.Places.{asFirst};
 ghost use Rattle.elimination.specs.Kept.{Within, Reduces, Keeps, masked};
+ghost use Rattle.elimination.specs.Solved.{solved};
+use paper::WIDTH;
+use paper::Word;
+use words::ALL_CELLS;
 use words::Place;
 use words::cell_of;
 
 // Room for as many rows as a word has cells.
-const ROOM: usize = 32;
+const ROOM: usize = WIDTH as usize;
+
+// The smallest choice of rows with a given sum, bit j for row j, or that there is none.
+pub enum Solution {
+    Choice(Word),
+    None,
+}
 
 // What is left of a word, and the choice of rows that was added on the way.
 struct Reduced {
-    rest: u32,
-    choice: u32,
+    rest: Word,
+    choice: Word,
 }
 
 // The kept words, one for each row, and beside each the choice of rows whose sum it is.
 struct Kept {
-    words: [u32; ROOM],
-    choices: [u32; ROOM],
+    words: [Word; ROOM],
+    choices: [Word; ROOM],
 }
 
 // x with each of the first `count` kept words added in turn where that makes it smaller: where it has the word's highest cell.
-fn reduce(words: &[u32; ROOM], choices: &[u32; ROOM], count: usize, x: u32) -> Reduced
+fn reduce(words: &[Word; ROOM], choices: &[Word; ROOM], count: usize, x: Word) -> Reduced
     requires { ⌜ Within (now words) (now choices) count ⌝ }
     ensures { λ r. ⌜ Reduces (now (words .entry)) (now (choices .entry)) count x (r .rest) (r .choice) ⌝ }
 {
     let mut rest = x;
-    let mut choice: u32 = 0;
+    let mut choice: Word = 0;
     for i in 0..count {
         let y = rest ^ words[i];
         if y < rest {
@@ -47,13 +57,13 @@ fn reduce(words: &[u32; ROOM], choices: &[u32; ROOM], count: usize, x: u32) -> R
 }
 
 // The rows on the mask's cells, each reduced by those before it and kept.
-fn keep_rows(rows: &[u32], mask: u32) -> Kept
+fn keep_rows(rows: &[Word], mask: Word) -> Kept
     requires { ⌜ length (now rows) ≤ width ⌝ }
     ensures room { λ r. ⌜ Within (r .words) (r .choices) (length (now (rows .entry))) ⌝ }
     ensures kept { λ r. ⌜ Keeps (masked mask (now (rows .entry))) (r .words) (r .choices) (length (now (rows .entry))) ⌝ }
 {
-    let mut words = [0u32; ROOM];
-    let mut choices = [0u32; ROOM];
+    let mut words = [0; ROOM];
+    let mut choices = [0; ROOM];
     let mut j = 0;
     while j < rows.len() {
         let r = reduce(&words, &choices, j, rows[j] & mask);
@@ -65,9 +75,9 @@ fn keep_rows(rows: &[u32], mask: u32) -> Kept
 }
 
 // The first of the first `count` kept words that is 0.
-fn first_zero(words: &[u32; ROOM], count: usize) -> Place
+fn first_zero(words: &[Word; ROOM], count: usize) -> Place
     requires { ⌜ (count ≤ width) × (length (now words) ≡ width) ⌝ }
-    ensures { λ r. ⌜ placed r ≡ first count (λ j. eqb (getD (now (words .entry)) j 0) 0) ⌝ }
+    ensures { λ r. ⌜ asFirst r ≡ first count (λ j. eqb (getD (now (words .entry)) j 0) 0) ⌝ }
 {
     for j in 0..count {
         if words[j] == 0 {
@@ -78,26 +88,26 @@ fn first_zero(words: &[u32; ROOM], count: usize) -> Place
 }
 
 // The first row that is a sum of earlier rows.
-pub fn first_dependent(rows: &[u32]) -> Place
+pub fn first_dependent(rows: &[Word]) -> Place
     requires { ⌜ length (now rows) ≤ width ⌝ }
-    ensures { λ r. ⌜ placed r ≡ first (length (now (rows .entry))) (dependent (now (rows .entry))) ⌝ }
+    ensures { λ r. ⌜ asFirst r ≡ first (length (now (rows .entry))) (dependent (now (rows .entry))) ⌝ }
 {
-    let kept = keep_rows(rows, u32::MAX);
+    let kept = keep_rows(rows, ALL_CELLS);
     let words = kept.words;
     first_zero(&words, rows.len())
 }
 
 // The smallest d whose sum of rows equals the target at every cell of the mask.
-pub fn least(rows: &[u32], mask: u32, target: u32) -> Place
+pub fn solve(rows: &[Word], mask: Word, target: Word) -> Solution
     requires { ⌜ length (now rows) ≤ width ⌝ }
-    ensures { λ r. ⌜ placed r ≡ first (2 ^ length (now (rows .entry))) (λ d. eqb (bitAnd (sum (now (rows .entry)) d) mask) (bitAnd target mask)) ⌝ }
+    ensures { λ r. ⌜ solved r ≡ first (2 ^ length (now (rows .entry))) (λ d. eqb (bitAnd (sum (now (rows .entry)) d) mask) (bitAnd target mask)) ⌝ }
 {
     let kept = keep_rows(rows, mask);
     let words = kept.words;
     let choices = kept.choices;
     let r = reduce(&words, &choices, rows.len(), target & mask);
     if r.rest == 0 {
-        return Place::At(r.choice);
+        return Solution::Choice(r.choice);
     }
-    Place::Nowhere
+    Solution::None
 }

@@ -2,7 +2,6 @@
 // result at radius 1. Its whole output is four lines, put into one room and written at once; the gate compares them with `stdout` beside `src`.
 ghost use Prim.Native.Nat.{_+_, _≤_};
 ghost use lib.ListN.{length};
-use paper::Count;
 use paper::MeasuredD0;
 use paper::MeasuredD1;
 use paper::Reading;
@@ -14,11 +13,11 @@ use text::put;
 use text::put_number;
 
 // The kitchen sheet: n 7, k 3, l 1.
-const N: Count = 7;
+const N: u32 = 7;
 
-const K: Count = 3;
+const K: u32 = 3;
 
-const L: Count = 1;
+const L: u32 = 1;
 
 // The rows of the kitchen sheet: G1, G0, H, M.
 fn kitchen_rows() -> [Word; 10] {

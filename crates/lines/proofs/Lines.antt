@@ -1,5 +1,5 @@
 -- The table, a whole line with its carriage return, and its tokens; a line that is clipped asks for what the whole line does (`asked-held`).
--- The numbers of a call stand where the shape of its verb has them (`asked-placed`): that is what a verb may count on.
+-- The numbers of a call stand where the shape of its verb has them (`asked-stands`): that is what a verb may count on.
 use mathlib.Core.Path.{_≡_, refl, sym, ap, _∙_, subst}
 use mathlib.Core.Bool.{Bool, true, false, cond}
 use mathlib.Core.Option.{Option, none, some}
@@ -13,9 +13,9 @@ use lib.Seq.{take-all, getD-take}
 use borrow.Author.Tests.{eq-eqb, ne-eqb, le-leb, lt-leb}
 use Rattle.text.specs.Tokens.{upTo, cut, same}
 use Rattle.text.proofs.Tokens.{cut-at, cut-first}
-use Rattle.lines.specs.Shapes.{fill, Placed}
-use Rattle.lines.specs.Lines.{silent, unknown, call, Found, nowhere, at, lookup, shapeAt, called, calledAt, spelled, isSilent, asks, bare, asked, roomLine}
-use Rattle.lines.proofs.Shapes.{fill-placed}
+use Rattle.lines.specs.Shapes.{fill, Stands}
+use Rattle.lines.specs.Lines.{silent, unknown, call, Found, nowhere, at, lookup, shapeAt, called, knownAt, spelled, isSilent, comes, trimmed, calling, asked, storing, askedIn, roomLine}
+use Rattle.lines.proofs.Shapes.{fill-stands}
 
 -- ---- the table
 
@@ -43,87 +43,93 @@ module _ (name : List ℕ) (v : ℕ) where
 
 -- ---- a line that ends at its last byte
 
--- an empty line is silent
-pub asks-empty : (table line : List ℕ) → length line ≡ 0 → asks table line ≡ silent
-unfolding asks
-asks-empty table [] h = refl
-asks-empty table (b ∷ bs) h = absurd (omega arith)
-
 isSilent-of : (line : List ℕ) → 0 < length line → isSilent line ≡ eqb (getD line 0 0) 35
 isSilent-of [] h = absurd (omega arith)
 isSilent-of (b ∷ bs) h = refl
 
-module _ (table line : List ℕ) (some : 0 < length line) where
-  -- so is a comment
-  pub asks-comment : getD line 0 0 ≡ 35 → asks table line ≡ silent
-  unfolding asks
-  asks-comment e = rw (isSilent-of line some ∙ eq-eqb (getD line 0 0) 35 e)
+module _ {A : Type 0} (other : A) (known : ℕ → List ℕ → List (List ℕ) → A) (nothing : A) where
+  -- an empty line is silent
+  pub comes-empty : (table line : List ℕ) → length line ≡ 0 → comes other known nothing table line ≡ nothing
+  unfolding comes
+  comes-empty table [] h = refl
+  comes-empty table (b ∷ bs) h = absurd (omega arith)
 
-  module _ (n : getD line 0 0 ≡ 35 → ⊥) where
-    -- a line that is too long is no call
-    pub asks-long : roomLine < length line → asks table line ≡ unknown
-    unfolding asks
-    asks-long h = rw (isSilent-of line some ∙ ne-eqb (getD line 0 0) 35 n, lt-leb (length line) roomLine h)
+  module _ (table line : List ℕ) (some : 0 < length line) where
+    -- so is a comment
+    pub comes-comment : getD line 0 0 ≡ 35 → comes other known nothing table line ≡ nothing
+    unfolding comes
+    comes-comment e = rw (isSilent-of line some ∙ eq-eqb (getD line 0 0) 35 e)
 
-    -- any other line is what its tokens spell
-    pub asks-spelled : length line ≤ roomLine → asks table line ≡ spelled table (cut 32 line)
-    unfolding asks
-    asks-spelled h = rw (isSilent-of line some ∙ ne-eqb (getD line 0 0) 35 n, le-leb (length line) roomLine h)
+    module _ (n : getD line 0 0 ≡ 35 → ⊥) where
+      -- a line that is too long is no call
+      pub comes-long : roomLine < length line → comes other known nothing table line ≡ other
+      unfolding comes
+      comes-long h = rw (isSilent-of line some ∙ ne-eqb (getD line 0 0) 35 n, lt-leb (length line) roomLine h)
+
+      -- any other line is what its tokens spell
+      pub comes-spelled : length line ≤ roomLine → comes other known nothing table line ≡ spelled other known table (cut 32 line)
+      unfolding comes
+      comes-spelled h = rw (isSilent-of line some ∙ ne-eqb (getD line 0 0) 35 n, le-leb (length line) roomLine h)
 
 -- ---- a carriage return at the end
 
 -- what a line asks for is asked of the line without its carriage return
-pub asked-bare : (table line : List ℕ) → asked table line ≡ asks table (bare line)
+pub asked-trimmed : (table line : List ℕ) → asked table line ≡ comes unknown calling silent table (trimmed line)
 unfolding asked
-asked-bare table line = refl
+asked-trimmed table line = refl
+
+-- and so is what it leaves in the room
+pub askedIn-trimmed : (table line room : List ℕ) → askedIn table line room ≡ comes room (storing room) room table (trimmed line)
+unfolding askedIn
+askedIn-trimmed table line room = refl
 
 -- the last byte, at n, is a carriage return
-pub bare-return : (line : List ℕ) (n : ℕ) → length line ≡ suc n → getD line n 0 ≡ 13 → take n line ≡ bare line
-bare-return [] n h e = absurd (omega arith)
-bare-return (b ∷ []) zero h e = sym (ap (λ (t : Bool). cond t [] (b ∷ [])) (eq-eqb b 13 e))
-bare-return (b ∷ []) (suc n) h e = absurd (omega arith)
-bare-return (b ∷ c ∷ bs) zero h e = absurd (omega arith)
-bare-return (b ∷ c ∷ bs) (suc n) h e = ap (λ (l : List ℕ). b ∷ l) (bare-return (c ∷ bs) n (omega arith) e)
+pub trimmed-return : (line : List ℕ) (n : ℕ) → length line ≡ suc n → getD line n 0 ≡ 13 → take n line ≡ trimmed line
+trimmed-return [] n h e = absurd (omega arith)
+trimmed-return (b ∷ []) zero h e = sym (ap (λ (t : Bool). cond t [] (b ∷ [])) (eq-eqb b 13 e))
+trimmed-return (b ∷ []) (suc n) h e = absurd (omega arith)
+trimmed-return (b ∷ c ∷ bs) zero h e = absurd (omega arith)
+trimmed-return (b ∷ c ∷ bs) (suc n) h e = ap (λ (l : List ℕ). b ∷ l) (trimmed-return (c ∷ bs) n (omega arith) e)
 
 -- it is another byte
-pub bare-same : (line : List ℕ) (n : ℕ) → length line ≡ suc n → (getD line n 0 ≡ 13 → ⊥) → line ≡ bare line
-bare-same [] n h e = absurd (omega arith)
-bare-same (b ∷ []) zero h e = sym (ap (λ (t : Bool). cond t [] (b ∷ [])) (ne-eqb b 13 e))
-bare-same (b ∷ []) (suc n) h e = absurd (omega arith)
-bare-same (b ∷ c ∷ bs) zero h e = absurd (omega arith)
-bare-same (b ∷ c ∷ bs) (suc n) h e = ap (λ (l : List ℕ). b ∷ l) (bare-same (c ∷ bs) n (omega arith) e)
+pub trimmed-same : (line : List ℕ) (n : ℕ) → length line ≡ suc n → (getD line n 0 ≡ 13 → ⊥) → line ≡ trimmed line
+trimmed-same [] n h e = absurd (omega arith)
+trimmed-same (b ∷ []) zero h e = sym (ap (λ (t : Bool). cond t [] (b ∷ [])) (ne-eqb b 13 e))
+trimmed-same (b ∷ []) (suc n) h e = absurd (omega arith)
+trimmed-same (b ∷ c ∷ bs) zero h e = absurd (omega arith)
+trimmed-same (b ∷ c ∷ bs) (suc n) h e = ap (λ (l : List ℕ). b ∷ l) (trimmed-same (c ∷ bs) n (omega arith) e)
 
 -- nothing is taken off an empty line
-pub bare-empty : (line : List ℕ) → length line ≡ 0 → line ≡ bare line
-bare-empty [] h = refl
-bare-empty (b ∷ bs) h = absurd (omega arith)
+pub trimmed-empty : (line : List ℕ) → length line ≡ 0 → line ≡ trimmed line
+trimmed-empty [] h = refl
+trimmed-empty (b ∷ bs) h = absurd (omega arith)
 
 -- no more than a byte is taken off
-bare-length : (line : List ℕ) → length line ≤ length (bare line) + 1
-bare-length [] = omega arith
-bare-length (b ∷ []) = omega arith
-bare-length (b ∷ c ∷ bs) = omega (arith, bare-length (c ∷ bs))
+trimmed-length : (line : List ℕ) → length line ≤ length (trimmed line) + 1
+trimmed-length [] = omega arith
+trimmed-length (b ∷ []) = omega arith
+trimmed-length (b ∷ c ∷ bs) = omega (arith, trimmed-length (c ∷ bs))
 
-bare-first : (line : List ℕ) → 1 < length line → getD (bare line) 0 0 ≡ getD line 0 0
-bare-first [] h = absurd (omega arith)
-bare-first (b ∷ []) h = absurd (omega arith)
-bare-first (b ∷ c ∷ bs) h = refl
+trimmed-first : (line : List ℕ) → 1 < length line → getD (trimmed line) 0 0 ≡ getD line 0 0
+trimmed-first [] h = absurd (omega arith)
+trimmed-first (b ∷ []) h = absurd (omega arith)
+trimmed-first (b ∷ c ∷ bs) h = refl
 
 -- of a line that is too long, with a byte to spare for a carriage return, the first byte tells what it asks for
 asked-far : (table line other : List ℕ) → 1 + roomLine < length line → 1 + roomLine < length other → getD line 0 0 ≡ getD other 0 0
     → asked table line ≡ asked table other
-asked-far table line other h k same = asked-bare table line ∙ go (ℕ-discrete (getD line 0 0) 35) ∙ sym (asked-bare table other)
+asked-far table line other h k same = asked-trimmed table line ∙ go (ℕ-discrete (getD line 0 0) 35) ∙ sym (asked-trimmed table other)
   where
-    long : (l : List ℕ) → 1 + roomLine < length l → roomLine < length (bare l)
-    long l j = omega (arith, bare-length l)
+    long : (l : List ℕ) → 1 + roomLine < length l → roomLine < length (trimmed l)
+    long l j = omega (arith, trimmed-length l)
 
-    go : Dec (getD line 0 0 ≡ 35) → asks table (bare line) ≡ asks table (bare other)
+    go : Dec (getD line 0 0 ≡ 35) → comes unknown calling silent table (trimmed line) ≡ comes unknown calling silent table (trimmed other)
     go (yes e) =
-        asks-comment table (bare line) (omega (arith, long line h)) (bare-first line (omega arith) ∙ e)
-        ∙ sym (asks-comment table (bare other) (omega (arith, long other k)) (bare-first other (omega arith) ∙ sym same ∙ e))
+        comes-comment unknown calling silent table (trimmed line) (omega (arith, long line h)) (trimmed-first line (omega arith) ∙ e)
+        ∙ sym (comes-comment unknown calling silent table (trimmed other) (omega (arith, long other k)) (trimmed-first other (omega arith) ∙ sym same ∙ e))
     go (no n) =
-        asks-long table (bare line) (omega (arith, long line h)) (λ e. n (sym (bare-first line (omega arith)) ∙ e)) (long line h)
-        ∙ sym (asks-long table (bare other) (omega (arith, long other k)) (λ e. n (same ∙ sym (bare-first other (omega arith)) ∙ e)) (long other k))
+        comes-long unknown calling silent table (trimmed line) (omega (arith, long line h)) (λ e. n (sym (trimmed-first line (omega arith)) ∙ e)) (long line h)
+        ∙ sym (comes-long unknown calling silent table (trimmed other) (omega (arith, long other k)) (λ e. n (same ∙ sym (trimmed-first other (omega arith)) ∙ e)) (long other k))
 
 -- a line that is clipped at a room of two bytes more than a call may have asks for what the whole line does
 pub asked-held : (table : List ℕ) (room : ℕ) → 1 + roomLine < room → (line : List ℕ) → asked table (take room line) ≡ asked table line
@@ -136,27 +142,28 @@ asked-held table room wide line = go (decLe (length line) room)
 
 -- ---- the tokens
 
--- a verb alone is no call
-pub spelled-verb : (table verb : List ℕ) → spelled table (verb ∷ []) ≡ unknown
-unfolding spelled
-spelled-verb table verb = refl
+module _ {A : Type 0} (other : A) (known : ℕ → List ℕ → List (List ℕ) → A) where
+  -- a verb alone is no call
+  pub spelled-verb : (table verb : List ℕ) → spelled other known table (verb ∷ []) ≡ other
+  unfolding spelled
+  spelled-verb table verb = refl
 
--- a verb and one number or more
-pub spelled-call : (table verb t : List ℕ) (ts : List (List ℕ)) → spelled table (verb ∷ t ∷ ts) ≡ calledAt (lookup verb 0 (cut 32 table)) (t ∷ ts)
-unfolding spelled
-spelled-call table verb t ts = refl
+  spelled-call : (table verb t : List ℕ) (ts : List (List ℕ))
+      → spelled other known table (verb ∷ t ∷ ts) ≡ knownAt other known (lookup verb 0 (cut 32 table)) (t ∷ ts)
+  unfolding spelled
+  spelled-call table verb t ts = refl
 
--- the verb up to the first space, and the tokens behind it
-pub spelled-called : (table line : List ℕ) (e : ℕ) → e ≡ 0 + length (upTo 32 line) → e < length line
-    → spelled table (cut 32 line) ≡ calledAt (lookup (take e line) 0 (cut 32 table)) (cut 32 (drop (e + 1) line))
-spelled-called table line e ends more =
-    let next = cut-at 32 line 0 e (omega arith) ends more in
-    let rest = drop (e + 1) line in
-    let first = cut-first 32 rest 0 (0 + length (upTo 32 rest)) (omega arith) refl in
-    ap (spelled table) (next ∙ ap (λ (ts : List (List ℕ)). take (e - 0) line ∷ ts) (first .1))
-    ∙ spelled-call table (take (e - 0) line) (take (0 + length (upTo 32 rest) - 0) rest) (first .0)
-    ∙ ap (calledAt (lookup (take (e - 0) line) 0 (cut 32 table))) (sym (first .1))
-    ∙ ap (λ (n : ℕ). calledAt (lookup (take n line) 0 (cut 32 table)) (cut 32 rest)) (let k : e - 0 ≡ e = omega arith in k)
+  -- the verb up to the first space, and the tokens behind it
+  pub spelled-called : (table line : List ℕ) (e : ℕ) → e ≡ 0 + length (upTo 32 line) → e < length line
+      → spelled other known table (cut 32 line) ≡ knownAt other known (lookup (take e line) 0 (cut 32 table)) (cut 32 (drop (e + 1) line))
+  spelled-called table line e ends more =
+      let next = cut-at 32 line 0 e (omega arith) ends more in
+      let rest = drop (e + 1) line in
+      let first = cut-first 32 rest 0 (0 + length (upTo 32 rest)) (omega arith) refl in
+      ap (spelled other known table) (next ∙ ap (λ (ts : List (List ℕ)). take (e - 0) line ∷ ts) (first .1))
+      ∙ spelled-call table (take (e - 0) line) (take (0 + length (upTo 32 rest) - 0) rest) (first .0)
+      ∙ ap (knownAt other known (lookup (take (e - 0) line) 0 (cut 32 table))) (sym (first .1))
+      ∙ ap (λ (n : ℕ). knownAt other known (lookup (take n line) 0 (cut 32 table)) (cut 32 rest)) (let k : e - 0 ≡ e = omega arith in k)
 
 -- ---- the numbers of a call stand where the shape of its verb has them
 
@@ -190,29 +197,29 @@ unknown-not e = let z : _≡_ {A = ℕ} 0 1 = cc in omega arith
 silent-not : {v : ℕ} {ns : List ℕ} → silent ≡ call v ns → ⊥
 silent-not e = let z : _≡_ {A = ℕ} 0 1 = cc in omega arith
 
-spelled-placed : (table : List ℕ) (ts : List (List ℕ)) (v : ℕ) (ns : List ℕ) → spelled table ts ≡ call v ns → Placed (shapeAt (cut 32 table) v) 0 ns
+spelled-stands : (table : List ℕ) (ts : List (List ℕ)) (v : ℕ) (ns : List ℕ) → spelled unknown calling table ts ≡ call v ns → Stands (shapeAt (cut 32 table) v) 0 ns
 unfolding spelled
-spelled-placed table [] v ns e = absurd (unknown-not e)
-spelled-placed table (x ∷ []) v ns e = absurd (unknown-not e)
-spelled-placed table (x ∷ t ∷ ts) v ns e = go (lookup x 0 (cut 32 table)) refl e
+spelled-stands table [] v ns e = absurd (unknown-not e)
+spelled-stands table (x ∷ []) v ns e = absurd (unknown-not e)
+spelled-stands table (x ∷ t ∷ ts) v ns e = go (lookup x 0 (cut 32 table)) refl e
   where
-    go : (f : Found) → lookup x 0 (cut 32 table) ≡ f → calledAt f (t ∷ ts) ≡ call v ns → Placed (shapeAt (cut 32 table) v) 0 ns
+    go : (f : Found) → lookup x 0 (cut 32 table) ≡ f → knownAt unknown calling f (t ∷ ts) ≡ call v ns → Stands (shapeAt (cut 32 table) v) 0 ns
     go nowhere p k = absurd (unknown-not k)
     go (at u shape) p k =
         let c = called-some u v (fill shape (t ∷ ts)) ns k in
         let found = lookup-shape x 0 u (cut 32 table) shape p in
         let same : shapeAt (cut 32 table) v ≡ shape = ap (shapeAt (cut 32 table)) (let z : v ≡ u - 0 = omega (arith, c .0) in z) ∙ found .1 in
-        subst (λ (s : List ℕ). Placed s 0 ns) (sym same) (fill-placed shape (t ∷ ts) ns (c .1))
+        subst (λ (s : List ℕ). Stands s 0 ns) (sym same) (fill-stands shape (t ∷ ts) ns (c .1))
 
-asks-placed : (table line : List ℕ) (v : ℕ) (ns : List ℕ) → asks table line ≡ call v ns → Placed (shapeAt (cut 32 table) v) 0 ns
-unfolding asks
-asks-placed table line v ns e = go (isSilent line) (leb (length line) roomLine) e
+comes-stands : (table line : List ℕ) (v : ℕ) (ns : List ℕ) → comes unknown calling silent table line ≡ call v ns → Stands (shapeAt (cut 32 table) v) 0 ns
+unfolding comes
+comes-stands table line v ns e = go (isSilent line) (leb (length line) roomLine) e
   where
-    go : (a b : Bool) → cond a silent (cond b (spelled table (cut 32 line)) unknown) ≡ call v ns → Placed (shapeAt (cut 32 table) v) 0 ns
+    go : (a b : Bool) → cond a silent (cond b (spelled unknown calling table (cut 32 line)) unknown) ≡ call v ns → Stands (shapeAt (cut 32 table) v) 0 ns
     go true b k = absurd (silent-not k)
-    go false true k = spelled-placed table (cut 32 line) v ns k
+    go false true k = spelled-stands table (cut 32 line) v ns k
     go false false k = absurd (unknown-not k)
 
 -- of a whole line
-pub asked-placed : (table line : List ℕ) (v : ℕ) (ns : List ℕ) → asked table line ≡ call v ns → Placed (shapeAt (cut 32 table) v) 0 ns
-asked-placed table line v ns e = asks-placed table (bare line) v ns (sym (asked-bare table line) ∙ e)
+pub asked-stands : (table line : List ℕ) (v : ℕ) (ns : List ℕ) → asked table line ≡ call v ns → Stands (shapeAt (cut 32 table) v) 0 ns
+asked-stands table line v ns e = comes-stands table (trimmed line) v ns (sym (asked-trimmed table line) ∙ e)

@@ -1,5 +1,5 @@
 -- Shapes as they are read, letter by letter, and the numbers that fit them.
--- `fill` cites the first part; the second says where each number stands (`fill-placed`).
+-- `fill` cites the first part; the second says where each number stands (`fill-stands`).
 use mathlib.Core.Path.{_≡_, refl, sym, ap, ap₂, _∙_, subst}
 use mathlib.Core.Bool.{Bool, true, false, cond}
 use mathlib.Core.Option.{Option, none, some}
@@ -18,7 +18,7 @@ use Rattle.text.specs.declared.Number.the-variants as Number
 use Rattle.text.specs.Numerals.{numeral}
 use Rattle.text.proofs.Numerals.{numeral-most}
 use Rattle.paper.specs.Words.{width}
-use Rattle.lines.specs.Shapes.{mostOf, itemsOf, itemOf, many, unrolled, joined, before, fill, Placed}
+use Rattle.lines.specs.Shapes.{mostOf, itemsOf, itemOf, many, unrolled, joined, before, fill, stored, filled, Stands}
 
 -- ---- the letters that are to come
 
@@ -161,13 +161,46 @@ module _ (whole : Option (List ℕ)) (xs u t : List ℕ) (ts : List (List ℕ)) 
         ∙ ap (λ (s : List ℕ). joined x (fill s ts)) (sym p))
         ∙ after-one xs x (fill u' ts)
 
+-- what a turn leaves in the room, the numbers from place i on being to come
+pub filled-over : (i : ℕ) (room u t : List ℕ) (ts : List (List ℕ)) → length u ≡ 0 → filled i room u (t ∷ ts) ≡ room
+unfolding filled
+filled-over i room [] t ts h = refl
+filled-over i room (l ∷ u) t ts h = absurd (omega arith)
+
+filled-next : (i : ℕ) (room u t : List ℕ) (ts : List (List ℕ)) → 0 < length u
+    → filled i room u (t ∷ ts)
+    ≡ stored (numeral (mostOf (getD u 0 0)) t) i room (λ x next. filled (i + 1) next (unrolled (getD u 0 0) x ++ drop 1 u) ts)
+unfolding filled
+filled-next i room [] t ts h = absurd (omega arith)
+filled-next i room (l ∷ u) t ts h = refl
+
+module _ (i : ℕ) (room u t : List ℕ) (ts : List (List ℕ)) where
+  module _ (some : 0 < length u) where
+    -- a token that its place does not hold leaves the room as it is
+    pub filled-none : numeral (mostOf (getD u 0 0)) t ≡ Number.None → filled i room u (t ∷ ts) ≡ room
+    filled-none e =
+        filled-next i room u t ts some ∙ ap (λ (m : Number). stored m i room (λ x next. filled (i + 1) next (unrolled (getD u 0 0) x ++ drop 1 u) ts)) e
+
+    -- a number is stored, and the next ones behind it
+    pub filled-one : (x : ℕ) (u' : List ℕ) → numeral (mostOf (getD u 0 0)) t ≡ Number.Value x → u' ≡ unrolled (getD u 0 0) x ++ drop 1 u
+        → filled i room u (t ∷ ts) ≡ filled (i + 1) (set room i x) u' ts
+    filled-one x u' e p =
+        filled-next i room u t ts some ∙ ap (λ (m : Number). stored m i room (λ x next. filled (i + 1) next (unrolled (getD u 0 0) x ++ drop 1 u) ts)) e
+        ∙ ap (λ (s : List ℕ). filled (i + 1) (set room i x) s ts) (sym p)
+
+-- no token is left
+pub filled-end : (i : ℕ) (room u : List ℕ) → filled i room u [] ≡ room
+unfolding filled
+filled-end i room [] = refl
+filled-end i room (l ∷ u) = refl
+
 -- the numbers with x stored behind them
 pub stores : (numbers : List ℕ) (count x : ℕ) → count < length numbers → take (count + 1) (set numbers count x) ≡ take count numbers ++ (x ∷ [])
 stores numbers count x k = rw (add-one count) (take-suc-set numbers count x k)
 
 -- ---- numbers that fit a shape stand where it has them
 
--- the same as `Placed`, from the first number on
+-- the same as `Stands`, from the first number on
 abbrev Fitted : List ℕ → List ℕ → Type 0
 Fitted [] ns = length ns ≡ 0
 Fitted (letter ∷ shape) [] = ⊥
@@ -200,19 +233,19 @@ fits (t ∷ ts) zero wide (l ∷ shape) ns e =
 fits (t ∷ ts) (suc k) wide shape ns e =
     let b = before-some (numeral (mostOf (itemOf wide)) t) (λ x. fill (unrolled (itemOf wide) x ++ (many k (itemOf wide) ++ shape)) ts) ns e in
     let j = joined-some (b .0) (fill (unrolled (itemOf wide) (b .0) ++ (many k (itemOf wide) ++ shape)) ts) ns (b .2) in
-    let bare = ap (λ (l : List ℕ). fill (l ++ (many k (itemOf wide) ++ shape)) ts) (item-bare wide (b .0)) in
-    let r = fits ts k wide shape (j .0) (sym bare ∙ j .1) in
+    let trimmed = ap (λ (l : List ℕ). fill (l ++ (many k (itemOf wide) ++ shape)) ts) (item-bare wide (b .0)) in
+    let r = fits ts k wide shape (j .0) (sym trimmed ∙ j .1) in
     rw (j .2) (omega arith, r .1)
 
-places : (shape : List ℕ) (i : ℕ) (ns : List ℕ) → i ≤ length ns → Fitted shape (drop i ns) → Placed shape i ns
+places : (shape : List ℕ) (i : ℕ) (ns : List ℕ) → i ≤ length ns → Fitted shape (drop i ns) → Stands shape i ns
 places [] i ns h f = omega (arith, length-drop i ns)
 places (l ∷ shape) i ns h f = go (decLt i (length ns)) (places shape (i + 1 + itemsOf l (getD ns i 0)) ns)
   where
     x : ℕ
     x = getD ns i 0
 
-    go : Dec (i < length ns) → (i + 1 + itemsOf l x ≤ length ns → Fitted shape (drop (i + 1 + itemsOf l x) ns) → Placed shape (i + 1 + itemsOf l x) ns)
-        → Placed (l ∷ shape) i ns
+    go : Dec (i < length ns) → (i + 1 + itemsOf l x ≤ length ns → Fitted shape (drop (i + 1 + itemsOf l x) ns) → Stands shape (i + 1 + itemsOf l x) ns)
+        → Stands (l ∷ shape) i ns
     go (yes k) rest =
         let g : Fitted (l ∷ shape) (x ∷ drop (suc i) ns) = subst (Fitted (l ∷ shape)) (drop-cons ns i 0 k) f in
         let far : i + 1 + itemsOf l x ≤ length ns = omega (arith, length-drop (suc i) ns, g .1) in
@@ -222,5 +255,5 @@ places (l ∷ shape) i ns h f = go (decLt i (length ns)) (places shape (i + 1 + 
     go (no n) rest = absurd (subst (Fitted (l ∷ shape)) (let far : length ns ≤ i = omega (arith, n) in drop-of-length-le ns far) f)
 
 -- the numbers of a line stand where its shape has them
-pub fill-placed : (shape : List ℕ) (ts : List (List ℕ)) (ns : List ℕ) → fill shape ts ≡ some ns → Placed shape 0 ns
-fill-placed shape ts ns e = places shape 0 ns (omega arith) (fits ts 0 true shape ns e .1)
+pub fill-stands : (shape : List ℕ) (ts : List (List ℕ)) (ns : List ℕ) → fill shape ts ≡ some ns → Stands shape 0 ns
+fill-stands shape ts ns e = places shape 0 ns (omega arith) (fits ts 0 true shape ns e .1)

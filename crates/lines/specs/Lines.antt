@@ -6,7 +6,7 @@ use Prim.Native.Nat.{ℕ, zero, suc, _+_}
 use lib.Dec.{eqb, leb}
 use lib.ListN.{length, take, drop}
 use Rattle.text.specs.Tokens.{cut, same}
-use Rattle.lines.specs.Shapes.{fill}
+use Rattle.lines.specs.Shapes.{fill, filled}
 use Rattle.lines.specs.declared.call.Entry.{Entry}
 use Rattle.lines.specs.declared.call.Entry.the-variants as Entry
 use Rattle.lines.specs.declared.call.Line.{Line}
@@ -49,38 +49,53 @@ abbrev pub called : ℕ → Option (List ℕ) → Asked
 called v none = unknown
 called v (some ns) = call v ns
 
--- the tokens behind a verb
-abbrev pub calledAt : Found → List (List ℕ) → Asked
-calledAt nowhere ts = unknown
-calledAt (at v shape) ts = called v (fill shape ts)
-
--- a line's tokens: a verb of the table and the numbers of its shape, one or more
-unfoldable pub spelled : List ℕ → List (List ℕ) → Asked
-unfolding lookup
-spelled table [] = unknown
-spelled table (verb ∷ []) = unknown
-spelled table (verb ∷ t ∷ ts) = calledAt (lookup verb 0 (cut 32 table)) (t ∷ ts)
-
 -- "Empty lines and lines that begin with `#` are no calls and get no answer."
 abbrev pub isSilent : List ℕ → Bool
 isSilent [] = true
 isSilent (b ∷ bs) = eqb b 35
 
--- what a line that ends at its last byte asks for: one that is too long for the room is no call
-unfoldable pub asks : List ℕ → List ℕ → Asked
-unfolding spelled
-asks table line = cond (isSilent line) silent (cond (leb (length line) roomLine) (spelled table (cut 32 line)) unknown)
+-- what a line comes to, if no call comes to `other`, and the call of a verb, by its shape and the tokens behind it, to `known`
+module _ {A : Type 0} (other : A) (known : ℕ → List ℕ → List (List ℕ) → A) where
+  -- the tokens behind a verb
+  abbrev pub knownAt : Found → List (List ℕ) → A
+  knownAt nowhere ts = other
+  knownAt (at v shape) ts = known v shape ts
+
+  -- a line's tokens: a verb of the table and the numbers of its shape, one or more
+  unfoldable pub spelled : List ℕ → List (List ℕ) → A
+  unfolding lookup
+  spelled table [] = other
+  spelled table (verb ∷ []) = other
+  spelled table (verb ∷ t ∷ ts) = knownAt (lookup verb 0 (cut 32 table)) (t ∷ ts)
+
+  -- a line that ends at its last byte, if one that asks for nothing comes to `nothing`: one that is too long for the room is no call
+  unfoldable pub comes : A → List ℕ → List ℕ → A
+  unfolding spelled
+  comes nothing table line = cond (isSilent line) nothing (cond (leb (length line) roomLine) (spelled table (cut 32 line)) other)
 
 -- a line without the carriage return (13) that may be its last byte: it belongs to the end of the line, as in a file with CR LF
-abbrev pub bare : List ℕ → List ℕ
-bare [] = []
-bare (b ∷ []) = cond (eqb b 13) [] (b ∷ [])
-bare (b ∷ c ∷ bs) = b ∷ bare (c ∷ bs)
+abbrev pub trimmed : List ℕ → List ℕ
+trimmed [] = []
+trimmed (b ∷ []) = cond (eqb b 13) [] (b ∷ [])
+trimmed (b ∷ c ∷ bs) = b ∷ trimmed (c ∷ bs)
+
+-- the call of a verb with the numbers that fit its shape
+abbrev pub calling : ℕ → List ℕ → List (List ℕ) → Asked
+calling v shape ts = called v (fill shape ts)
 
 -- what a line asks for
 unfoldable pub asked : List ℕ → List ℕ → Asked
-unfolding asks
-asked table line = asks table (bare line)
+unfolding comes
+asked table line = comes unknown calling silent table (trimmed line)
+
+-- the numbers of a call, in the room that is lent for them
+abbrev pub storing : List ℕ → ℕ → List ℕ → List (List ℕ) → List ℕ
+storing room v shape ts = filled 0 room shape ts
+
+-- what asking leaves in that room
+unfoldable pub askedIn : List ℕ → List ℕ → List ℕ → List ℕ
+unfolding comes
+askedIn table line room = comes room (storing room) room table (trimmed line)
 
 -- ---- what the code's values mean
 

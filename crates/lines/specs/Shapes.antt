@@ -5,7 +5,7 @@ use mathlib.Core.Option.{Option, none, some}
 use mathlib.Core.List.{List, [], _∷_, _++_}
 use Prim.Native.Nat.{ℕ, zero, suc, _+_, _-_, _*_, _^_, _≤_, _<_}
 use lib.Dec.{eqb}
-use lib.ListN.{length, take, drop, getD}
+use lib.ListN.{length, take, drop, getD, set}
 use Rattle.text.specs.declared.Number.{Number}
 use Rattle.text.specs.declared.Number.the-variants as Number
 use Rattle.text.specs.Numerals.{numeral}
@@ -52,12 +52,25 @@ fill (letter ∷ shape) [] = none
 fill [] (t ∷ ts) = none
 fill (letter ∷ shape) (t ∷ ts) = before (numeral (mostOf letter) t) (λ x. fill (unrolled letter x ++ shape) ts)
 
+-- a number stored at place i of a room, before those that its value asks for
+abbrev pub stored : Number → ℕ → List ℕ → (ℕ → List ℕ → List ℕ) → List ℕ
+stored Number.None i room rest = room
+stored (Number.Value x) i room rest = rest x (set room i x)
+
+-- what is left in a room: the numbers of the tokens from place i on, up to the first token that does not fit the shape
+unfoldable pub filled : ℕ → List ℕ → List ℕ → List (List ℕ) → List ℕ
+filled i room [] [] = room
+filled i room (letter ∷ shape) [] = room
+filled i room [] (t ∷ ts) = room
+filled i room (letter ∷ shape) (t ∷ ts) =
+    stored (numeral (mostOf letter) t) i room (λ x next. filled (i + 1) next (unrolled letter x ++ shape) ts)
+
 -- numbers that stand where a shape has them, the first of them at place i: each is there, its place holds it, and so are its items
-abbrev pub Placed : List ℕ → ℕ → List ℕ → Type 0
-Placed [] i ns = i ≡ length ns
-Placed (letter ∷ shape) i ns =
+abbrev pub Stands : List ℕ → ℕ → List ℕ → Type 0
+Stands [] i ns = i ≡ length ns
+Stands (letter ∷ shape) i ns =
     (i < length ns) × (getD ns i 0 ≤ mostOf letter) × (i + 1 + itemsOf letter (getD ns i 0) ≤ length ns)
-    × Placed shape (i + 1 + itemsOf letter (getD ns i 0)) ns
+    × Stands shape (i + 1 + itemsOf letter (getD ns i 0)) ns
 
 -- ---- what the code's values mean
 

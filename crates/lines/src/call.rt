@@ -5,7 +5,7 @@ ghost use Prim.Native.Nat.{ℕ, _+_, _*_, _≤_};
 ghost use lib.ListN.{length, take};
 ghost use Rattle.text.specs.Tokens.{cut};
 ghost use Rattle.lines.specs.Shapes.{held, counted};
-ghost use Rattle.lines.specs.Lines.{lookup, found, spelled, bare, asks, asked, meant, used, roomLine, inTable};
+ghost use Rattle.lines.specs.Lines.{silent, unknown, lookup, found, spelled, comes, trimmed, calling, asked, storing, askedIn, meant, used, roomLine, inTable};
 ghost use Rattle.lines.specs.Lines.{called as Lines·called};
 use crate::shape::Counted;
 use crate::shape::fill;
@@ -71,8 +71,9 @@ fn called(v: usize, numbers: Counted) -> Line
 // The call that the tokens of a line spell.
 fn parse_call(line: &[u8], table: &[u8], numbers: &mut [Word]) -> Line
     requires { ⌜ length (now line) ≤ 2 * length (now numbers) ⌝ }
-    ensures { λ r. ⌜ meant r (now (numbers .exit)) ≡ spelled (now (table .entry)) (cut 32 (now (line .entry))) ⌝ }
+    ensures { λ r. ⌜ meant r (now (numbers .exit)) ≡ spelled unknown calling (now (table .entry)) (cut 32 (now (line .entry))) ⌝ }
     ensures { λ r. ⌜ used r ≤ length (now (numbers .exit)) ⌝ }
+    ensures { λ _. ⌜ now (numbers .exit) ≡ spelled (now (numbers .entry)) (storing (now (numbers .entry))) (now (table .entry)) (cut 32 (now (line .entry))) ⌝ }
 {
     let end = end_of(line, 0, b' ');
     if end == line.len() {
@@ -86,10 +87,11 @@ fn parse_call(line: &[u8], table: &[u8], numbers: &mut [Word]) -> Line
 }
 
 // What a line that ends at its last byte asks for. Its numbers are left in the lent room.
-fn parse_bare(line: &[u8], table: &[u8], numbers: &mut [Word]) -> Line
+fn parse_trimmed(line: &[u8], table: &[u8], numbers: &mut [Word]) -> Line
     requires { ⌜ roomLine ≤ 2 * length (now numbers) ⌝ }
-    ensures { λ r. ⌜ meant r (now (numbers .exit)) ≡ asks (now (table .entry)) (now (line .entry)) ⌝ }
+    ensures { λ r. ⌜ meant r (now (numbers .exit)) ≡ comes unknown calling silent (now (table .entry)) (now (line .entry)) ⌝ }
     ensures { λ r. ⌜ used r ≤ length (now (numbers .exit)) ⌝ }
+    ensures { λ _. ⌜ now (numbers .exit) ≡ comes (now (numbers .entry)) (storing (now (numbers .entry))) (now (numbers .entry)) (now (table .entry)) (now (line .entry)) ⌝ }
 {
     if line.len() == 0 {
         return Line::Silent;
@@ -104,8 +106,8 @@ fn parse_bare(line: &[u8], table: &[u8], numbers: &mut [Word]) -> Line
 }
 
 // Where a line ends: before the carriage return that may be its last byte.
-fn bare_end(line: &[u8]) -> usize
-    ensures { λ r. ⌜ take r (now (line .entry)) ≡ bare (now (line .entry)) ⌝ }
+fn trimmed_end(line: &[u8]) -> usize
+    ensures { λ r. ⌜ take r (now (line .entry)) ≡ trimmed (now (line .entry)) ⌝ }
     ensures { λ r. ⌜ r ≤ length (now (line .entry)) ⌝ }
 {
     let end = line.len();
@@ -123,7 +125,8 @@ pub fn parse(line: &[u8], table: &[u8], numbers: &mut [Word]) -> Line
     requires { ⌜ roomLine ≤ 2 * length (now numbers) ⌝ }
     ensures { λ r. ⌜ meant r (now (numbers .exit)) ≡ asked (now (table .entry)) (now (line .entry)) ⌝ }
     ensures { λ r. ⌜ used r ≤ length (now (numbers .exit)) ⌝ }
+    ensures { λ _. ⌜ now (numbers .exit) ≡ askedIn (now (table .entry)) (now (line .entry)) (now (numbers .entry)) ⌝ }
 {
-    let end = bare_end(line);
-    parse_bare(&line[..end], table, numbers)
+    let end = trimmed_end(line);
+    parse_trimmed(&line[..end], table, numbers)
 }

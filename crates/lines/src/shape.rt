@@ -5,7 +5,7 @@ ghost use lib.Dec.{eqb};
 ghost use lib.ListN.{length, getD, drop};
 ghost use mathlib.Core.List.{_++_};
 ghost use Rattle.text.specs.Tokens.{cut};
-ghost use Rattle.lines.specs.Shapes.{mostOf, itemsOf, unrolled, counted, held, unread};
+ghost use Rattle.lines.specs.Shapes.{mostOf, itemsOf, unrolled, filled, counted, held, unread};
 ghost use Rattle.lines.specs.Shapes.{fill as Shapes·fill};
 use paper::WIDTH;
 use paper::Word;
@@ -108,6 +108,7 @@ pub fn fill(line: &[u8], from: usize, shape: &[u8], numbers: &mut [Word]) -> Cou
     requires { ⌜ length (now line) ≤ 2 * length (now numbers) ⌝ }
     ensures { λ r. ⌜ counted r (now (numbers .exit)) ≡ Shapes·fill (now (shape .entry)) (cut 32 (drop from (now (line .entry)))) ⌝ }
     ensures { λ r. ⌜ held r ≤ length (now (numbers .exit)) ⌝ }
+    ensures { λ _. ⌜ now (numbers .exit) ≡ filled 0 (now (numbers .entry)) (now (shape .entry)) (cut 32 (drop from (now (line .entry)))) ⌝ }
 {
     let mut at = from;
     let mut count = 0;

@@ -13,7 +13,7 @@ use lib.ListN.{length, length-append, length-map}
 use lib.Pow.{pow-pos, pow-lt}
 use Rattle.paper.specs.Listing.{listed, weights}
 use Rattle.words.proofs.Sums.{ones-zero, ones-above}
-use Rattle.listing.specs.Searches.{Before}
+use Rattle.paper.specs.Promised.{Before}
 
 -- ---- the ends of the list
 

@@ -10,7 +10,7 @@ use lib.Count.{ones}
 use lib.ListN.{length, getD, length-append, List·getD-append}
 use lib.Seq.{getD-at}
 use Rattle.paper.specs.Listing.{Search, found, missed, search, weights}
-use Rattle.listing.specs.Searches.{Before}
+use Rattle.paper.specs.Promised.{Before}
 use Rattle.listing.proofs.Listed.{Ordered, ordered-after, weights-of, weights-in, weights-ordered}
 
 -- ---- one word, and one list after another

@@ -1,10 +1,7 @@
--- What the code's search answers and tests, and the order of the list, in the paper's terms.
-use mathlib.Core.Path.{_≡_}
-use mathlib.Core.Logic.{_⊎_}
+-- What the code's search answers and tests, in the paper's terms.
 use mathlib.Core.Bool.{Bool, not, _&&_, _||_}
 use mathlib.Core.List.{List, map}
-use Prim.Native.Nat.{ℕ, _+_, _≤_, _<_}
-use lib.Count.{ones}
+use Prim.Native.Nat.{ℕ, _+_}
 use lib.Dec.{eqb}
 use lib.ListN.{length}
 use Rattle.paper.specs.Words.{products, _⊕_}
@@ -25,7 +22,3 @@ passes clear stirred y z = eqb (products clear (y ⊕ z)) 0 && (eqb (length stir
 -- the words of weight v over n cells, each added to a base
 abbrev pub above : ℕ → ℕ → ℕ → List ℕ
 above base n v = map (λ z. base + z) (listed n v)
-
--- a is not after b in the list: "by weight (number of ones), then by value"
-abbrev pub Before : ℕ → ℕ → Type 0
-Before a b = (ones a < ones b) ⊎ ((ones a ≡ ones b) × (a ≤ b))

@@ -6,17 +6,19 @@ ghost use lib.ListN.{length};
 ghost use Rattle.paper.specs.Words.{width, products};
 ghost use Rattle.paper.specs.Listing.{listed, weights, search};
 ghost use Rattle.listing.specs.Searches.{searched, passes, above};
+use paper::Count;
+use paper::Word;
 use words::cell_of;
 use words::product_of;
 
 // What a search finds: a word and "the place of z in the list, counted from 1"; or that all of the list was tried.
 pub enum Found {
-    At { z: u32, tried: u32 },
-    Nothing { tried: u32 },
+    At { z: Word, tried: Count },
+    Nothing { tried: Count },
 }
 
 // Whether the product of x with each row is 0: of the rows of H, whether x is a codeword. It leaves at the first product that is not 0.
-fn is_clear(rows: &[u32], x: u32) -> bool
+fn is_clear(rows: &[Word], x: Word) -> bool
     ensures { λ r. ⌜ r ≡ eqb (products (now (rows .entry)) x) 0 ⌝ }
 {
     let mut i = 0;
@@ -30,7 +32,7 @@ fn is_clear(rows: &[u32], x: u32) -> bool
 }
 
 // The one test of a listed word z: y + z has product 0 with each row of `clear`, and product 1 with some row of `stirred`, where it has rows.
-fn is_hit(clear: &[u32], stirred: &[u32], y: u32, z: u32) -> bool
+fn is_hit(clear: &[Word], stirred: &[Word], y: Word, z: Word) -> bool
     ensures { λ r. ⌜ r ≡ passes (now (clear .entry)) (now (stirred .entry)) y z ⌝ }
 {
     let x = y ^ z;
@@ -45,7 +47,15 @@ fn is_hit(clear: &[u32], stirred: &[u32], y: u32, z: u32) -> bool
 
 // The first hit of weight v over the lower cells, `base` added to each word and `tried` words tried before: "those of weight v over
 // the lower n - 1 cells, then those of weight v - 1 over the lower n - 1 cells with cell n - 1 added".
-fn seek(clear: &[u32], stirred: &[u32], y: u32, cells: u32, v: u32, base: u32, tried: u32) -> Found
+fn seek(
+    clear: &[Word],
+    stirred: &[Word],
+    y: Word,
+    cells: u32,
+    v: u32,
+    base: Word,
+    tried: Count,
+) -> Found
     requires { ⌜ (cells ≤ width) × (base + 2 ^ cells ≤ 2 ^ width) × (tried + length (listed cells v) < 2 ^ width) ⌝ }
     ensures { λ r. ⌜ searched r ≡ search (passes (now (clear .entry)) (now (stirred .entry)) y) tried (above base cells v) ⌝ }
 {
@@ -70,11 +80,18 @@ fn seek(clear: &[u32], stirred: &[u32], y: u32, cells: u32, v: u32, base: u32, t
 }
 
 // The first hit of the list from weight `from` on, below weight `end`: "Words over n cells are listed by weight (number of ones), then by value."
-pub fn search_weights(clear: &[u32], stirred: &[u32], y: u32, n: u32, from: u32, end: u32) -> Found
+pub fn search_weights(
+    clear: &[Word],
+    stirred: &[Word],
+    y: Word,
+    n: u32,
+    from: u32,
+    end: u32,
+) -> Found
     requires { ⌜ (n ≤ width) × (from ≤ end) × (end ≤ width) ⌝ }
     ensures { λ r. ⌜ searched r ≡ search (passes (now (clear .entry)) (now (stirred .entry)) y) 0 (weights n from (end - from)) ⌝ }
 {
-    let mut tried = 0;
+    let mut tried: Count = 0;
     for v in from..end {
         let got = seek(clear, stirred, y, n, v, 0, tried);
         let Found::Nothing { tried: t } = got else {

@@ -1,4 +1,5 @@
--- The definitions of document 01, a file for each of its headings. What must be believed is all here; no lemma is.
+-- The definitions of document 01, a file for each of its headings, and the words that the promises use beside them (Promised).
+-- What must be believed is all here; no lemma is.
 --
 -- How to read them: `leb a b`, `ltb a b` and `eqb a b` are the tests a ≤ b, a < b and a = b; `&&`, `||` and `not` join them, and `cond test x y` is
 -- x where the test holds, else y. `take m rows` are the first m rows, `drop m rows` the rows after them, `getD rows i 0` is row i. `[]` is the empty list,
@@ -12,3 +13,4 @@ pub mod Sheet
 pub mod Writing
 pub mod Reading
 pub mod Plate
+pub mod Promised

@@ -14,7 +14,7 @@ pub record Least (P : ℕ → Type 0) (d : ℕ) : Type 0 where
   pub word : ℕ
   pub has : P word
   pub weighs : weight word ≡ d
-  pub least : (x : ℕ) → P x → d ≤ weight x
+  pub none-lighter : (x : ℕ) → P x → d ≤ weight x
 
 -- "a nonzero word whose product with every row of G0 is 0"
 pub record Masked (s : Sheet) (x : ℕ) : Type 0 where
@@ -45,10 +45,13 @@ unfoldable pub searchD1 : Sheet → ℕ → Search
 unfolding weights search
 searchD1 s cap = search (λ z. eqb (products (H s) z) 0 && not (eqb (products (M s) z) 0)) 0 (weights (s .n) 1 cap)
 
--- "the radius to print on the plate: half of d1, rounded down, or half of the cap, rounded down, where d1 is more than the cap"
-abbrev pub printed : ℕ → Search → ℕ
-printed cap (found z tried) = weight z / 2
-printed cap (missed tried) = cap / 2
+-- "the radius to print on the plate: half of d1, rounded down"
+abbrev pub printed : ℕ → ℕ
+printed d = d / 2
+
+-- "or half of the cap, rounded down, where d1 is more than the cap"
+abbrev pub printedBeyond : ℕ → ℕ
+printedBeyond cap = cap / 2
 
 -- "It answers the distance, or "more than the cap", and the number tried"
 abbrev pub plateD0 : Search → Told
@@ -57,19 +60,33 @@ plateD0 (missed tried) = more (tried ∷ [])
 
 -- the same, and it "also answers the radius to print on the plate"
 abbrev pub plateD1 : ℕ → Search → Told
-plateD1 cap (found z tried) = answer (weight z ∷ tried ∷ printed cap (found z tried) ∷ [])
-plateD1 cap (missed tried) = more (tried ∷ printed cap (missed tried) ∷ [])
+plateD1 cap (found z tried) = answer (weight z ∷ tried ∷ printed (weight z) ∷ [])
+plateD1 cap (missed tried) = more (tried ∷ printedBeyond cap ∷ [])
+
+-- "a cap of 1 to 8"
+abbrev pub mostCap : ℕ
+mostCap = 8
 
 -- 11: "cap 0 or above 8"
 abbrev pub capped : ℕ → Bool
-capped cap = leb 1 cap && leb cap 8
+capped cap = leb 1 cap && leb cap mostCap
 
--- what measuring d0 answers: 1 to 6; then "11 for measuring"
+-- "11 for measuring", d0 first
+unfoldable pub measuresAdmittedD0 : Sheet → ℕ → Told
+unfolding searchD0
+measuresAdmittedD0 s cap = unless (capped cap) 11 (plateD0 (searchD0 s cap))
+
+-- the same for d1
+unfoldable pub measuresAdmittedD1 : Sheet → ℕ → Told
+unfolding searchD1
+measuresAdmittedD1 s cap = unless (capped cap) 11 (plateD1 cap (searchD1 s cap))
+
+-- what measuring d0 answers: 1 to 6, then as on an admitted sheet
 unfoldable pub measuresD0 : Sheet → ℕ → Told
-unfolding judged searchD0
-measuresD0 s cap = judged s (unless (capped cap) 11 (plateD0 (searchD0 s cap)))
+unfolding judged measuresAdmittedD0
+measuresD0 s cap = judged s (measuresAdmittedD0 s cap)
 
 -- what measuring d1 answers
 unfoldable pub measuresD1 : Sheet → ℕ → Told
-unfolding judged searchD1
-measuresD1 s cap = judged s (unless (capped cap) 11 (plateD1 cap (searchD1 s cap)))
+unfolding judged measuresAdmittedD1
+measuresD1 s cap = judged s (measuresAdmittedD1 s cap)

@@ -23,11 +23,17 @@ abbrev pub heard : Sheet → ℕ → Search → Told
 heard s y (found z tried) = answer (products (M s) (y ⊕ z) ∷ z ∷ tried ∷ [])
 heard s y (missed tried) = refusal 12 (tried ∷ [])
 
--- what reading y at radius t answers: 1 to 6; then "10, 11, 12 for reading". "The radius is 0 to 4."
+-- "The radius is 0 to 4."
+abbrev pub mostRadius : ℕ
+mostRadius = 4
+
+-- "10, 11, 12 for reading"
+unfoldable pub readsAdmitted : Sheet → ℕ → ℕ → Told
+unfolding first nearest
+readsAdmitted s y t =
+    unlessAt (first width (strayCell (s .n) y)) 10 0 (unless (leb t mostRadius) 11 (heard s y (nearest s y t)))
+
+-- what reading y at radius t answers: 1 to 6, then as on an admitted sheet
 unfoldable pub reads : Sheet → ℕ → ℕ → Told
-unfolding judged first nearest
-reads s y t =
-    judged s
-    (unlessAt (first width (strayCell (s .n) y)) 10 0
-    (unless (leb t 4) 11
-    (heard s y (nearest s y t))))
+unfolding judged readsAdmitted
+reads s y t = judged s (readsAdmitted s y t)

@@ -22,20 +22,37 @@ pub data Told : Type 0 where
   more : List ℕ → Told
   refusal : ℕ → List ℕ → Told
 
+-- a reason's number in the table "When the box says no", and what is given with it
+pub record Reason : Type 0 where
+  pub number : ℕ
+  pub given : List ℕ
+
+-- a reason with which nothing is given
+abbrev pub bare : ℕ → Reason
+bare number = record { number = number; given = [] }
+
+-- a reason with which a row, a cell or a number tried is given
+abbrev pub giving : ℕ → ℕ → Reason
+giving number value = record { number = number; given = value ∷ [] }
+
 -- "When the box says no": each reason's number, and what is given with it
+abbrev pub reason : Refusal → Reason
+reason Shape = bare 1
+reason (Stray row) = giving 2 row
+reason (OffCode row) = giving 3 row
+reason (OffMessage row) = giving 4 row
+reason (DependentG0 row) = giving 5 row
+reason (DependentH row) = giving 6 row
+reason Message = bare 7
+reason (Stuck cell) = giving 8 cell
+reason NoWord = bare 9
+reason (ReadWord cell) = giving 10 cell
+reason Limit = bare 11
+reason (NoCodeword tried) = giving 12 tried
+
+-- "the refusal carries its reason"
 abbrev pub refused : Refusal → Told
-refused Shape = refusal 1 []
-refused (Stray row) = refusal 2 (row ∷ [])
-refused (OffCode row) = refusal 3 (row ∷ [])
-refused (OffMessage row) = refusal 4 (row ∷ [])
-refused (DependentG0 row) = refusal 5 (row ∷ [])
-refused (DependentH row) = refusal 6 (row ∷ [])
-refused Message = refusal 7 []
-refused (Stuck cell) = refusal 8 (cell ∷ [])
-refused NoWord = refusal 9 []
-refused (ReadWord cell) = refusal 10 (cell ∷ [])
-refused Limit = refusal 11 []
-refused (NoCodeword tried) = refusal 12 (tried ∷ [])
+refused why = refusal (reason why .number) (reason why .given)
 
 -- what an admission tells
 abbrev pub admission : Admission → Told

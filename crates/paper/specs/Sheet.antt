@@ -72,17 +72,23 @@ offMessage s = off 1 (G s) (M s)
 abbrev pub dependent : List ℕ → ℕ → Bool
 dependent rows j = any (2 ^ j) (λ d. eqb (sum (take j rows) d) (getD rows j 0))
 
--- refusals 1 to 6, else what comes next: "the row given is the first row in sheet order at which the rule breaks;
--- a rule is tried on all rows before the next rule"
-unfoldable pub judged : Sheet → Told → Told
+-- rules 5 and 6, else what comes next. Rows are numbered over the whole sheet: those of G0 begin at k, those of H at k + l
+unfoldable pub judgedSums : Sheet → Told → Told
 unfolding first
-judged s next =
-    unless (shaped s) 1
-    (unlessAt (first (length (s .rows)) (stray s)) 2 0
-    (unlessAt (first (s .k + s .l) (offCode s)) 3 0
-    (unlessAt (first (s .k + s .l) (offMessage s)) 4 0
-    (unlessAt (first (s .l) (dependent (G0 s))) 5 (s .k)
-    (unlessAt (first (r s) (dependent (H s))) 6 (s .k + s .l) next)))))
+judgedSums s next =
+    unlessAt (first (s .l) (dependent (G0 s))) 5 (s .k) (unlessAt (first (r s) (dependent (H s))) 6 (s .k + s .l) next)
+
+-- rules 2 to 6: "the row given is the first row in sheet order at which the rule breaks; a rule is tried on all rows before the next rule"
+unfoldable pub judgedRows : Sheet → Told → Told
+unfolding first judgedSums
+judgedRows s next =
+    unlessAt (first (length (s .rows)) (stray s)) 2 0
+    (unlessAt (first (s .k + s .l) (offCode s)) 3 0 (unlessAt (first (s .k + s .l) (offMessage s)) 4 0 (judgedSums s next)))
+
+-- refusals 1 to 6, else what comes next
+unfoldable pub judged : Sheet → Told → Told
+unfolding judgedRows
+judged s next = unless (shaped s) 1 (judgedRows s next)
 
 -- what admitting answers
 abbrev pub admits : Sheet → Told

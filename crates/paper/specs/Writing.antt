@@ -22,16 +22,24 @@ abbrev pub misplaced : ℕ → ℕ → ℕ → ℕ → Bool
 misplaced n stuck levels i =
     (leb n i && (eqb (cell stuck i) 1 || eqb (cell levels i) 1)) || (eqb (cell levels i) 1 && eqb (cell stuck i) 0)
 
+-- the smallest d whose word fits
+abbrev pub fitting : Sheet → ℕ → ℕ → ℕ → First
+fitting s w stuck levels = first (2 ^ s .l) (λ d. fits stuck levels (wordOf s w d))
+
 -- "The answer is the fitting word of message w whose d .. is the smallest number, and that d"; 9 if "no word of the message fits"
 abbrev pub chosen : Sheet → ℕ → First → Told
 chosen s w (at d) = answer (wordOf s w d ∷ d ∷ [])
 chosen s w nowhere = refusal 9 []
 
--- what writing message w answers: 1 to 6; "then 7, 8, 9 for writing"
-unfoldable pub writes : Sheet → ℕ → ℕ → ℕ → Told
-unfolding judged first
-writes s w stuck levels =
-    judged s
-    (unless (ltb w (2 ^ s .k)) 7
+-- "then 7, 8, 9 for writing"
+unfoldable pub writesAdmitted : Sheet → ℕ → ℕ → ℕ → Told
+unfolding first
+writesAdmitted s w stuck levels =
+    unless (ltb w (2 ^ s .k)) 7
     (unlessAt (first width (misplaced (s .n) stuck levels)) 8 0
-    (chosen s w (first (2 ^ s .l) (λ d. fits stuck levels (wordOf s w d))))))
+    (chosen s w (fitting s w stuck levels)))
+
+-- what writing message w answers: 1 to 6, then as on an admitted sheet
+unfoldable pub writes : Sheet → ℕ → ℕ → ℕ → Told
+unfolding judged writesAdmitted
+writes s w stuck levels = judged s (writesAdmitted s w stuck levels)

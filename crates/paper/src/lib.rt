@@ -1,13 +1,20 @@
-// The answers of the store, as values, and the width of a word. What each one tells, in the numbers and values of document 01, stands in specs/Refusals.antt.
+// The answers of the store, as values, the types of their numbers, and the limits. What each answer tells, in the numbers and values
+// of document 01, stands in specs/Refusals.antt.
+
+// A word of cells: a row, a message, a word read or written, stuck cells and their levels, a choice of rows.
+pub type Word = u32;
+
+// A number of listed words.
+pub type Count = u32;
 
 // The number of cells that a word of the machine has: `width` of specs/Words.antt.
 pub const WIDTH: u32 = 32;
 
-// A word of cells, as the machine has it: WIDTH bits.
-pub type Word = u32;
+// The largest radius: `mostRadius` of specs/Reading.antt.
+pub const MOST_RADIUS: u32 = 4;
 
-// A number of cells, rows or tries.
-pub type Count = u32;
+// The largest cap: `mostCap` of specs/Plate.antt.
+pub const MOST_CAP: u32 = 8;
 
 // Why a call is refused: "the refusal carries its reason and the reason carries its row".
 pub enum Refusal {
@@ -22,7 +29,7 @@ pub enum Refusal {
     NoWord,
     ReadWord { cell: u32 },
     Limit,
-    NoCodeword { tried: u32 },
+    NoCodeword { tried: Count },
 }
 
 // What admitting a sheet answers.
@@ -33,26 +40,30 @@ pub enum Admission {
 
 // What writing answers: the fitting word with the smallest d, and that d.
 pub enum Written {
-    Word { word: u32, d: u32 },
+    Word { word: Word, d: Word },
     Refused(Refusal),
 }
 
 // What reading answers: the message of y + z, z itself, and the number tried.
 pub enum Reading {
-    Message { message: u32, z: u32, tried: u32 },
+    Message {
+        message: Word,
+        z: Word,
+        tried: Count,
+    },
     Refused(Refusal),
 }
 
 // What measuring d0 answers: the distance or "more than the cap", and the number tried.
 pub enum MeasuredD0 {
-    Distance { d: u32, tried: u32 },
-    More { tried: u32 },
+    Distance { d: u32, tried: Count },
+    More { tried: Count },
     Refused(Refusal),
 }
 
 // What measuring d1 answers: the same, and the radius to print on the plate.
 pub enum MeasuredD1 {
-    Distance { d: u32, tried: u32, radius: u32 },
-    More { tried: u32, radius: u32 },
+    Distance { d: u32, tried: Count, radius: u32 },
+    More { tried: Count, radius: u32 },
     Refused(Refusal),
 }

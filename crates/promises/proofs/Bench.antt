@@ -1,5 +1,7 @@
 -- The starred cases of document 01: one table of calls and what they tell, and one claim over its rows, of the definitions.
+-- So a reader sees the definitions answer as document 01 says. Assumes nothing.
 use mathlib.Core.Path.{_≡_, refl}
+use mathlib.Core.Bool.{cond}
 use mathlib.Core.List.{List, [], _∷_, map}
 use Prim.Native.Nat.{ℕ}
 use lib.Count.{ones}
@@ -7,10 +9,10 @@ use Rattle.paper.specs.First.{first}
 use Rattle.paper.specs.Listing.{listed, weights, search}
 use Rattle.paper.specs.Words.{products, sum, _⊕_}
 use Rattle.paper.specs.Refusals.{Told, answer, more, refusal}
-use Rattle.paper.specs.Sheet.{Sheet, sheet, judged}
-use Rattle.paper.specs.Writing.{writes}
-use Rattle.paper.specs.Reading.{nearest, reads}
-use Rattle.paper.specs.Plate.{searchD0, searchD1, measuresD0, measuresD1}
+use Rattle.paper.specs.Sheet.{Sheet, sheet, judgedSums, judgedRows, judged}
+use Rattle.paper.specs.Writing.{wordOf, fits, writesAdmitted, writes}
+use Rattle.paper.specs.Reading.{nearest, readsAdmitted, reads}
+use Rattle.paper.specs.Plate.{searchD0, searchD1, measuresAdmittedD0, measuresAdmittedD1, measuresD0, measuresD1}
 
 -- "Kitchen sheet: n 7, k 3, l 1, r 3; rows 49, 82, 100, 127, 27, 45, 78, 9, 10, 12."
 abbrev pub kitchen : Sheet
@@ -20,19 +22,22 @@ kitchen = sheet 7 3 1 (49 ∷ 82 ∷ 100 ∷ 127 ∷ 27 ∷ 45 ∷ 78 ∷ 9 ∷ 
 abbrev pub attic : Sheet
 attic = sheet 3 1 2 (1 ∷ 3 ∷ 5 ∷ 7 ∷ [])
 
--- a call, and what it tells
+-- a call, and what it outcome
 pub data Call : Type 0 where
   write : Sheet → ℕ → ℕ → ℕ → Call
   read : Sheet → ℕ → ℕ → Call
   d0 : Sheet → ℕ → Call
   d1 : Sheet → ℕ → Call
+  -- no call, but what the attic's case says beside one: the word of a message and a d, and whether it fits (1) or not (0)
+  word : Sheet → ℕ → ℕ → ℕ → ℕ → Call
 
--- what the definition of a call tells
-pub tells : Call → Told
-tells (write s message stuck levels) = writes s message stuck levels
-tells (read s y radius) = reads s y radius
-tells (d0 s cap) = measuresD0 s cap
-tells (d1 s cap) = measuresD1 s cap
+-- what the definition of a call outcome
+pub outcome : Call → Told
+outcome (write s message stuck levels) = writes s message stuck levels
+outcome (read s y radius) = reads s y radius
+outcome (d0 s cap) = measuresD0 s cap
+outcome (d1 s cap) = measuresD1 s cap
+outcome (word s message stuck levels d) = answer (wordOf s message d ∷ cond (fits stuck levels (wordOf s message d)) 1 0 ∷ [])
 
 -- a row of the table
 pub record Case : Type 0 where
@@ -58,6 +63,7 @@ cases =
     ∷ read kitchen 21 0 gives refusal 12 (1 ∷ [])
     ∷ read kitchen 86 1 gives answer (2 ∷ 4 ∷ 4 ∷ [])
     ∷ write attic 1 1 0 gives answer (2 ∷ 1 ∷ [])
+    ∷ word attic 1 1 0 2 gives answer (4 ∷ 1 ∷ [])
     ∷ write attic 1 7 0 gives refusal 9 []
     ∷ write attic 0 7 0 gives answer (0 ∷ 0 ∷ [])
     ∷ d0 attic 8 gives answer (3 ∷ 7 ∷ [])
@@ -65,6 +71,6 @@ cases =
     ∷ []
 
 -- every row of the table holds
-pub bench : map (λ (row : Case). tells (row .call)) cases ≡ map (λ (row : Case). row .told) cases
-unfolding tells _gives_ cases writes reads measuresD0 measuresD1 searchD0 searchD1 nearest judged first weights listed search products sum _⊕_ ones
+pub bench : map (λ (row : Case). outcome (row .call)) cases ≡ map (λ (row : Case). row .told) cases
+unfolding outcome _gives_ cases writes writesAdmitted reads readsAdmitted measuresD0 measuresAdmittedD0 measuresD1 measuresAdmittedD1 searchD0 searchD1 nearest judged judgedRows judgedSums first weights listed search products sum _⊕_ ones
 bench = refl

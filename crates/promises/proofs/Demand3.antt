@@ -18,22 +18,22 @@ use Rattle.paper.specs.First.{First, nowhere, at, first, any}
 use Rattle.paper.specs.Words.{product, products, sum, _⊕_}
 use Rattle.paper.specs.Refusals.{answer, more, refusal}
 use Rattle.paper.specs.Sheet.{Sheet, G1, G0, H, M, Admitted, Codeword, WordOf}
-use Rattle.paper.specs.Writing.{wordOf, fits, chosen, writes}
-use Rattle.paper.specs.Reading.{reads}
+use Rattle.paper.specs.Writing.{wordOf, fits, fitting, chosen, writes}
+use Rattle.paper.specs.Reading.{mostRadius, reads}
 use Rattle.paper.specs.Plate.{Masked, Hidden, D0, D1, measuresD0, measuresD1}
+use Rattle.paper.specs.Promised.{Stuck, Before, Nearest}
 use Rattle.words.proofs.Cells.{and-and}
 use Rattle.words.proofs.Sums.{sums, ⊕-cancel, ⊕-self, ⊕-zero-l, ⊕-zero-r, ⊕-zero-eq, ⊕-lt, on-mask, ones-⊕, ones-and-le, weight-split}
 use Rattle.words.proofs.Products.{product-cases, product-⊕, product-some, product-mask, product-zero-l, products-⊕, products-zero}
 use Rattle.words.proofs.Firsts.{first-at, first-all, any-some}
 use Rattle.elimination.specs.Evidence.{Evidence}
 use Rattle.elimination.proofs.Alternative.{alternative, never-both}
-use Rattle.listing.specs.Searches.{Before}
 use Rattle.sheet.proofs.Verdicts.{sound}
 use Rattle.promises.proofs.Tests.{fails, not-below, any-at, nonzero}
-use Rattle.promises.proofs.Answers.{Stuck, fitting, placed, writes-on}
+use Rattle.promises.proofs.Answers.{stuck-passes, writes-on}
 use Rattle.promises.proofs.Order.{write-9}
 use Rattle.promises.proofs.Writing.{written-fits, writes-free}
-use Rattle.promises.proofs.Reading.{Nearest, read-first, near-read}
+use Rattle.promises.proofs.Reading.{read-first, near-read}
 use Rattle.promises.proofs.Plate.{hides, hides-only, hidden-decides, more-d0, more-d1}
 
 -- ---- stuck cells
@@ -73,7 +73,7 @@ module _ (s : Sheet) (ok : Admitted s) (w : ℕ) (message : w < 2 ^ s .k) where
 
     -- "fewer than d0 stuck cells at any levels, no message refused"
     pub d0-fits : (d0 : ℕ) → D0 s d0 → ones stuck < d0 → (x : ℕ) × (d : ℕ) × (writes s w stuck levels ≡ answer (x ∷ d ∷ []))
-    d0-fits d0 D = fits-below d0 (D .least)
+    d0-fits d0 D = fits-below d0 (D .none-lighter)
 
     -- ""more than the cap" .. and then the first half of demand 3 holds with the cap plus 1 in its place"
     pub more-d0-fits : (cap tried : ℕ) → measuresD0 s cap ≡ more (tried ∷ []) → ones stuck < cap + 1
@@ -103,7 +103,7 @@ module _ (s : Sheet) (ok : Admitted s) (w : ℕ) (message : w < 2 ^ s .k) where
             write-9 s w c levels .1 (
               ok,
               message,
-              placed s c levels good,
+              stuck-passes s c levels good,
               λ d l. fails (fits c levels (wordOf s w d)) (λ e. never-both (G0 s) c (g ⊕ levels) c v d (matches s w c levels d inside .0 e)),
             ),
           )
@@ -145,7 +145,7 @@ module _ (s : Sheet) (v : ℕ) (far : (c : ℕ) → Hidden s c → v ≤ ones c)
   -- "what was written, then disturbed in at most t cells, reads back at radius t, for t up to 4 with 2t below d1",
   -- for any v that no codeword of a message other than 0 weighs less than
   pub reads-back : Admitted s → (w stuck levels x d : ℕ) → writes s w stuck levels ≡ answer (x ∷ d ∷ [])
-      → (noise t : ℕ) → noise < 2 ^ s .n → ones noise ≤ t → t ≤ 4 → 2 * t < v
+      → (noise t : ℕ) → noise < 2 ^ s .n → ones noise ≤ t → t ≤ mostRadius → 2 * t < v
       → (z : ℕ) × (tried : ℕ) × (reads s (x ⊕ noise) t ≡ answer (w ∷ z ∷ tried ∷ []))
   reads-back ok w stuck levels x d e noise t low few h near =
       let word = written-fits s w stuck levels x d e .word in
@@ -161,10 +161,10 @@ module _ (s : Sheet) (v : ℕ) (far : (c : ℕ) → Hidden s c → v ≤ ones c)
       (r .1, r .2, subst (λ (i : ℕ). reads s y t ≡ answer (i ∷ r .1 ∷ r .2 ∷ [])) m (r .3))
 
 module _ (s : Sheet) (ok : Admitted s) (w stuck levels x d : ℕ) (e : writes s w stuck levels ≡ answer (x ∷ d ∷ []))
-    (noise t : ℕ) (low : noise < 2 ^ s .n) (few : ones noise ≤ t) (radius : t ≤ 4) where
+    (noise t : ℕ) (low : noise < 2 ^ s .n) (few : ones noise ≤ t) (radius : t ≤ mostRadius) where
   -- "what was written, then disturbed in at most t cells, reads back at radius t, for t up to 4 with 2t below d1"
   pub d1-reads-back : (d1 : ℕ) → D1 s d1 → 2 * t < d1 → (z : ℕ) × (tried : ℕ) × (reads s (x ⊕ noise) t ≡ answer (w ∷ z ∷ tried ∷ []))
-  d1-reads-back d1 D = reads-back s d1 (D .least) ok w stuck levels x d e noise t low few radius
+  d1-reads-back d1 D = reads-back s d1 (D .none-lighter) ok w stuck levels x d e noise t low few radius
 
   -- ""more than the cap" .. and then the first half of demand 3 holds with the cap plus 1 in its place"
   pub more-d1-reads-back : (cap tried half : ℕ) → measuresD1 s cap ≡ more (tried ∷ half ∷ []) → 2 * t < cap + 1
@@ -174,7 +174,7 @@ module _ (s : Sheet) (ok : Admitted s) (w stuck levels x d : ℕ) (e : writes s 
 module _ (s : Sheet) (d1 : ℕ) (D : D1 s d1) where
   -- "no two codewords of different messages differ in fewer than d1 cells"
   pub d1-apart : (x y : ℕ) → Codeword s x → Codeword s y → (products (M s) x ≡ products (M s) y → ⊥) → d1 ≤ ones (x ⊕ y)
-  d1-apart x y h l f = D .least (x ⊕ y) (hidden-⊕ s x y h l f)
+  d1-apart x y h l f = D .none-lighter (x ⊕ y) (hidden-⊕ s x y h l f)
 
   -- "and some two differ in exactly d1"
   pub d1-tight : (x : ℕ) × (y : ℕ) × Codeword s x × Codeword s y × (products (M s) x ≡ products (M s) y → ⊥) × (ones (x ⊕ y) ≡ d1)
@@ -270,13 +270,13 @@ module _ (s : Sheet) (d1 : ℕ) (D : D1 s d1) where
           (hidden-⊕ s (x ⊕ (a ⊕ b)) ((x ⊕ b) ⊕ z) other (near .message .code) (λ e. differs (e ∙ near .message .message)))
 
       go : Before z a → ⊥
-      go (inl l) = omega (arith, D .least (z ⊕ a) hidden, ones-⊕ z a, pair .left)
+      go (inl l) = omega (arith, D .none-lighter (z ⊕ a) hidden, ones-⊕ z a, pair .left)
       go (inr q) =
           let first : a ≤ z = least z a (record {
             left-low = near .cells;
             right-low = pair .left-low;
             left = q .0 ∙ pair .left;
-            right = omega (arith, D .least (z ⊕ a) hidden, ones-⊕ z a, pair .left, q .0);
+            right = omega (arith, D .none-lighter (z ⊕ a) hidden, ones-⊕ z a, pair .left, q .0);
             sum = hidden;
           }) in
           let e : a ≡ z = omega (arith, q .1) in

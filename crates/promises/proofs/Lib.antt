@@ -2,7 +2,6 @@
 pub mod Pinned
 pub mod Bench
 pub mod Tests
-pub mod Stages
 pub mod Answers
 pub mod Order
 pub mod Places
@@ -10,4 +9,5 @@ pub mod Writing
 pub mod Reading
 pub mod Plate
 pub mod Demand3
+pub mod Box
 pub mod Useless

@@ -1,16 +1,14 @@
 -- "For each public call, any two results allowed by its contract .. are shown to be the same result."
--- A contract says what is told of the result, and what is told is one-to-one. No call writes to lent memory: `rows` is lent by `&`.
+-- A contract of the store says what is told of the result, and what is told is one-to-one. No call writes to lent memory: `rows` is lent by `&`.
 use mathlib.Core.Path.{_≡_, refl, sym, ap, _∙_}
-use mathlib.Core.List.{List, [], _∷_}
+use mathlib.Core.List.{List}
 use Prim.Native.Nat.{ℕ}
 use lib.ListN.{getD}
-use Rattle.paper.specs.Refusals.{Told, answer, more, refusal, refused, admission, written, reading, measuredD0, measuredD1}
+use Rattle.paper.specs.Refusals.{Told, answer, more, refusal, admission, written, reading, measuredD0, measuredD1}
 use Rattle.paper.specs.Sheet.{Sheet, admits}
 use Rattle.paper.specs.Writing.{writes}
 use Rattle.paper.specs.Reading.{reads}
 use Rattle.paper.specs.Plate.{measuresD0, measuresD1}
-use Rattle.paper.specs.declared.Refusal.{Refusal}
-use Rattle.paper.specs.declared.Refusal.the-variants.{Shape, Stray, OffCode, OffMessage, DependentG0, DependentH, Message, Stuck, NoWord, ReadWord, Limit, NoCodeword}
 use Rattle.paper.specs.declared.Admission.{Admission}
 use Rattle.paper.specs.declared.Admission.the-variants as Admission
 use Rattle.paper.specs.declared.Written.{Written}
@@ -21,35 +19,11 @@ use Rattle.paper.specs.declared.MeasuredD0.{MeasuredD0}
 use Rattle.paper.specs.declared.MeasuredD0.the-variants as MeasuredD0
 use Rattle.paper.specs.declared.MeasuredD1.{MeasuredD1}
 use Rattle.paper.specs.declared.MeasuredD1.the-variants as MeasuredD1
+use Rattle.rules.proofs.Reasons.{reasonOf, told-back}
 
 -- a result can be told back from what is told of it
 abbrev at : List ℕ → ℕ → ℕ
 at values i = getD values i 0
-
--- the reason, by its number and what is given with it
-reason : ℕ → ℕ → Refusal
-reason number given =
-    getD
-    (Shape ∷ Shape ∷ Stray given ∷ OffCode given ∷ OffMessage given ∷ DependentG0 given ∷ DependentH given ∷ Message ∷ Stuck given ∷ NoWord
-    ∷ ReadWord given ∷ Limit ∷ NoCodeword given ∷ []) number Shape
-
--- a refusal is told back whatever the call answers else
-module _ {A : Type 0} (back : Told → A) (wrap : Refusal → A)
-    (step : (number : ℕ) (given : List ℕ) → back (refusal number given) ≡ wrap (reason number (at given 0))) where
-  refused-back : (why : Refusal) → back (refused why) ≡ wrap why
-  unfolding reason
-  refused-back Shape = step 1 []
-  refused-back (Stray row) = step 2 (row ∷ [])
-  refused-back (OffCode row) = step 3 (row ∷ [])
-  refused-back (OffMessage row) = step 4 (row ∷ [])
-  refused-back (DependentG0 row) = step 5 (row ∷ [])
-  refused-back (DependentH row) = step 6 (row ∷ [])
-  refused-back Message = step 7 []
-  refused-back (Stuck cell) = step 8 (cell ∷ [])
-  refused-back NoWord = step 9 []
-  refused-back (ReadWord cell) = step 10 (cell ∷ [])
-  refused-back Limit = step 11 []
-  refused-back (NoCodeword tried) = step 12 (tried ∷ [])
 
 -- two results of which the same is told are the same
 same : {A : Type 0} (tell : A → Told) (back : Told → A) → ((a : A) → back (tell a) ≡ a) → (t : Told) (a b : A) → tell a ≡ t → tell b ≡ t → a ≡ b
@@ -58,54 +32,54 @@ same tell back h t a b p q = sym (h a) ∙ ap back (p ∙ sym q) ∙ h b
 admission-back : Told → Admission
 admission-back (answer values) = Admission.Admitted
 admission-back (more values) = Admission.Admitted
-admission-back (refusal number given) = Admission.Refused (reason number (at given 0))
+admission-back (refusal number given) = Admission.Refused (reasonOf number given)
 
 written-back : Told → Written
 written-back (answer values) = Written.Word (at values 0) (at values 1)
 written-back (more values) = Written.Word 0 0
-written-back (refusal number given) = Written.Refused (reason number (at given 0))
+written-back (refusal number given) = Written.Refused (reasonOf number given)
 
 reading-back : Told → Reading
 reading-back (answer values) = Reading.Message (at values 0) (at values 1) (at values 2)
 reading-back (more values) = Reading.Message 0 0 0
-reading-back (refusal number given) = Reading.Refused (reason number (at given 0))
+reading-back (refusal number given) = Reading.Refused (reasonOf number given)
 
 measuredD0-back : Told → MeasuredD0
 measuredD0-back (answer values) = MeasuredD0.Distance (at values 0) (at values 1)
 measuredD0-back (more values) = MeasuredD0.More (at values 0)
-measuredD0-back (refusal number given) = MeasuredD0.Refused (reason number (at given 0))
+measuredD0-back (refusal number given) = MeasuredD0.Refused (reasonOf number given)
 
 measuredD1-back : Told → MeasuredD1
 measuredD1-back (answer values) = MeasuredD1.Distance (at values 0) (at values 1) (at values 2)
 measuredD1-back (more values) = MeasuredD1.More (at values 0) (at values 1)
-measuredD1-back (refusal number given) = MeasuredD1.Refused (reason number (at given 0))
+measuredD1-back (refusal number given) = MeasuredD1.Refused (reasonOf number given)
 
 admission-told : (a : Admission) → admission-back (admission a) ≡ a
 unfolding admission-back
 admission-told Admission.Admitted = refl
-admission-told (Admission.Refused why) = refused-back admission-back Admission.Refused (λ number given. refl) why
+admission-told (Admission.Refused why) = ap Admission.Refused (told-back why)
 
 written-told : (a : Written) → written-back (written a) ≡ a
 unfolding written-back
 written-told (Written.Word word d) = refl
-written-told (Written.Refused why) = refused-back written-back Written.Refused (λ number given. refl) why
+written-told (Written.Refused why) = ap Written.Refused (told-back why)
 
 reading-told : (a : Reading) → reading-back (reading a) ≡ a
 unfolding reading-back
 reading-told (Reading.Message message z tried) = refl
-reading-told (Reading.Refused why) = refused-back reading-back Reading.Refused (λ number given. refl) why
+reading-told (Reading.Refused why) = ap Reading.Refused (told-back why)
 
 measuredD0-told : (a : MeasuredD0) → measuredD0-back (measuredD0 a) ≡ a
 unfolding measuredD0-back
 measuredD0-told (MeasuredD0.Distance d tried) = refl
 measuredD0-told (MeasuredD0.More tried) = refl
-measuredD0-told (MeasuredD0.Refused why) = refused-back measuredD0-back MeasuredD0.Refused (λ number given. refl) why
+measuredD0-told (MeasuredD0.Refused why) = ap MeasuredD0.Refused (told-back why)
 
 measuredD1-told : (a : MeasuredD1) → measuredD1-back (measuredD1 a) ≡ a
 unfolding measuredD1-back
 measuredD1-told (MeasuredD1.Distance d tried radius) = refl
 measuredD1-told (MeasuredD1.More tried radius) = refl
-measuredD1-told (MeasuredD1.Refused why) = refused-back measuredD1-back MeasuredD1.Refused (λ number given. refl) why
+measuredD1-told (MeasuredD1.Refused why) = ap MeasuredD1.Refused (told-back why)
 
 -- ---- the five calls
 

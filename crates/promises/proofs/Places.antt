@@ -3,19 +3,11 @@
 use mathlib.Core.Path.{_≡_, sym, _∙_, subst}
 use mathlib.Core.Bool.{Bool, true, true≢false}
 use mathlib.Core.List.{List}
-use Prim.Native.Nat.{ℕ, _+_, _-_, _≤_, _<_}
+use Prim.Native.Nat.{ℕ, _-_, _<_}
 use native.Mathlib.Omega.{arith}
-use lib.ListN.{length, getD}
 use Rattle.paper.specs.Listing.{found, search}
+use Rattle.paper.specs.Promised.{Placed}
 use Rattle.listing.proofs.Searched.{found-place}
-
--- z is the first of the list with P, and stands there at `tried`
-pub record Placed (P : ℕ → Type 0) (list : List ℕ) (z tried : ℕ) : Type 0 where
-  pub some : 1 ≤ tried
-  pub inside : tried ≤ length list
-  pub stands : getD list (tried - 1) 0 ≡ z
-  pub hit : P z
-  pub first : (j : ℕ) → j + 1 < tried → P (getD list j 0) → ⊥
 
 module _ {P : ℕ → Type 0} {list : List ℕ} where
   -- what a search finds by a test that all with P pass

@@ -3,7 +3,7 @@
 use mathlib.Core.Path.{_≡_, refl, sym, ap, _∙_, subst}
 use mathlib.Core.Bool.{and-eq-true-iff, Bool, true, not, _&&_}
 use mathlib.Core.List.{[], _∷_}
-use Prim.Native.Nat.{ℕ, _+_, _/_, _^_, _≤_, _<_}
+use Prim.Native.Nat.{ℕ, _+_, _^_, _≤_, _<_}
 use native.Mathlib.Nat.{zero-lt-suc}
 use native.Mathlib.Omega.{arith}
 use borrow.Author.Tests.{eqb-true, eqb-false, eq-eqb, ne-eqb, not-true}
@@ -16,7 +16,8 @@ use Rattle.paper.specs.Listing.{Search, found, missed, search, weights}
 use Rattle.paper.specs.Refusals.{answer, more}
 use Rattle.paper.specs.Sheet.{Sheet, G1, G0, H, M, Admitted}
 use Rattle.paper.specs.Writing.{wordOf}
-use Rattle.paper.specs.Plate.{Least, Masked, Hidden, D0, D1, searchD0, searchD1, plateD0, plateD1, measuresD0, measuresD1}
+use Rattle.paper.specs.Plate.{Least, Masked, Hidden, D0, D1, mostCap, printed, printedBeyond, searchD0, searchD1, plateD0, plateD1, measuresD0, measuresD1}
+use Rattle.paper.specs.Promised.{Measured, Beyond}
 use Rattle.words.proofs.Cells.{no-cell}
 use Rattle.words.proofs.Sums.{ones-zero, ones-pos, ones-unit}
 use Rattle.words.proofs.Products.{product-comm, product-unit, product-zero-l, product-zero-r, cell-products, products-lt, products-nil, products-zero}
@@ -28,14 +29,14 @@ use Rattle.sheet.proofs.Messages.{clear-sum, read-back, word-of}
 use Rattle.listing.proofs.Searched.{found-first, missed-none, hit-found}
 use Rattle.promises.proofs.Tests.{not-below, nonzero}
 use Rattle.promises.proofs.Answers.{measure-d0-told, measure-d1-told, measuresD0-on, measuresD1-on}
-use Rattle.promises.proofs.Places.{Placed, found-placed}
+use Rattle.promises.proofs.Places.{found-placed}
 use Rattle.promises.proofs.Reading.{before-weight, before-all}
 
 -- ---- the least weight of a word with a property
 
 -- there is one least weight
 pub least-once : {P : ℕ → Type 0} {d e : ℕ} → Least P d → Least P e → d ≡ e
-least-once a b = omega (arith, a .least (b .word) (b .has), b .least (a .word) (a .has), a .weighs, b .weighs)
+least-once a b = omega (arith, a .none-lighter (b .word) (b .has), b .none-lighter (a .word) (a .has), a .weighs, b .weighs)
 
 -- a property of some words over n cells, none of them 0, and a test of it
 pub record Decides (n : ℕ) (P : ℕ → Type 0) (p : ℕ → Bool) : Type 0 where
@@ -43,19 +44,6 @@ pub record Decides (n : ℕ) (P : ℕ → Type 0) (p : ℕ → Bool) : Type 0 wh
   pub some : (x : ℕ) → P x → 1 ≤ ones x
   pub all : (x : ℕ) → P x → p x ≡ true
   pub only : (x : ℕ) → x < 2 ^ n → 1 ≤ ones x → p x ≡ true → P x
-
--- d was measured, `tried` being "the place of the first hit in the list begun at weight 1"
-pub record Measured (P : ℕ → Type 0) (n cap d tried : ℕ) : Type 0 where
-  pub distance : Least P d
-  pub within : d ≤ cap
-  pub hit : ℕ
-  pub weighs : ones hit ≡ d
-  pub place : Placed P (weights n 1 cap) hit tried
-
--- more than the cap was measured, `tried` being "the length of the list"
-pub record Beyond (P : ℕ → Type 0) (n cap tried : ℕ) : Type 0 where
-  pub whole : tried ≡ length (weights n 1 cap)
-  pub far : (x : ℕ) → P x → cap + 1 ≤ ones x
 
 -- so the least weight is more than the cap
 pub beyond-least : {P : ℕ → Type 0} {n cap tried d : ℕ} → Beyond P n cap tried → Least P d → cap < d
@@ -77,7 +65,7 @@ module _ {n : ℕ} {P : ℕ → Type 0} {p : ℕ → Bool} (D : Decides n P p) w
             word = z;
             has = h;
             weighs = refl;
-            least = λ x q. before-weight z x (before-all z x (1 + cap) (f .high) (λ l. f .first x (D .low x q) (D .some x q) l (D .all x q)));
+            none-lighter = λ x q. before-weight z x (before-all z x (1 + cap) (f .high) (λ l. f .first x (D .low x q) (D .some x q) l (D .all x q)));
           };
           within = omega (arith, f .high);
           hit = z;
@@ -148,10 +136,7 @@ module _ (s : Sheet) where
     only = λ x l o. hides-only x l;
   }
 
-  -- "By the definition neither is below 1"
-  pub d0-some : {d : ℕ} → D0 s d → 1 ≤ d
-  d0-some = least-some masked-decides
-
+  -- "By the definition neither is below 1": d0's word is nonzero by definition, and d1's has a message other than 0
   pub d1-some : {d : ℕ} → D1 s d → 1 ≤ d
   d1-some = least-some hidden-decides
 
@@ -186,7 +171,7 @@ module _ (s : Sheet) (ok : Admitted s) where
     word = 1;
     has = record { cells = pow-lt (sound s ok .shape .some-cells); nonzero = zero-lt-suc 0; clear = rw e (products-nil 1) };
     weighs = ones-unit 0;
-    least = λ x h. ones-pos x (h .nonzero);
+    none-lighter = λ x h. ones-pos x (h .nonzero);
   }
 
 -- ---- "A measured distance equals the defined one"
@@ -200,12 +185,12 @@ missedD0 (missed u) tried e = let q : u ≡ tried = cc in ap missed q
 missedD0 (found z u) tried e = let z : _≡_ {A = ℕ} 0 1 = cc in absurd (omega arith)
 
 foundD1 : (cap : ℕ) (f : Search) (d tried radius : ℕ) → plateD1 cap f ≡ answer (d ∷ tried ∷ radius ∷ [])
-    → (z : ℕ) × (f ≡ found z tried) × (ones z ≡ d) × (radius ≡ d / 2)
+    → (z : ℕ) × (f ≡ found z tried) × (ones z ≡ d) × (radius ≡ printed d)
 foundD1 cap (found z u) d tried radius e =
-    let q : u ≡ tried = cc in let o : ones z ≡ d = cc in let h : ones z / 2 ≡ radius = cc in (z, ap (found z) q, o, omega arith)
+    let q : u ≡ tried = cc in let o : ones z ≡ d = cc in let h : printed (ones z) ≡ radius = cc in (z, ap (found z) q, o, omega arith)
 foundD1 cap (missed u) d tried radius e = let z : _≡_ {A = ℕ} 0 1 = cc in absurd (omega arith)
 
-missedD1 : (cap : ℕ) (f : Search) (tried radius : ℕ) → plateD1 cap f ≡ more (tried ∷ radius ∷ []) → (f ≡ missed tried) × (radius ≡ cap / 2)
+missedD1 : (cap : ℕ) (f : Search) (tried radius : ℕ) → plateD1 cap f ≡ more (tried ∷ radius ∷ []) → (f ≡ missed tried) × (radius ≡ printedBeyond cap)
 missedD1 cap (missed u) tried radius e = let q : u ≡ tried = cc in (ap missed q, cc)
 missedD1 cap (found z u) tried radius e = let z : _≡_ {A = ℕ} 0 1 = cc in absurd (omega arith)
 
@@ -214,29 +199,29 @@ module _ (s : Sheet) (cap : ℕ) where
   pub answered-d0 : (d tried : ℕ) → measuresD0 s cap ≡ answer (d ∷ tried ∷ []) → Measured (Masked s) (s .n) cap d tried
   unfolding searchD0
   answered-d0 d tried e =
-      let b = foundD0 (searchD0 s cap) d tried (measure-d0-told s cap (answer (d ∷ tried ∷ [])) (omega arith) .0 e .2) in
+      let b = foundD0 (searchD0 s cap) d tried (measure-d0-told s cap (answer (d ∷ tried ∷ [])) refl refl .0 e .2) in
       subst (λ (v : ℕ). Measured (Masked s) (s .n) cap v tried) (b .2) (found-measured (masked-decides s) cap (b .1))
 
   pub more-d0 : (tried : ℕ) → measuresD0 s cap ≡ more (tried ∷ []) → Beyond (Masked s) (s .n) cap tried
   unfolding searchD0
   more-d0 tried e =
-      missed-beyond (masked-decides s) cap (missedD0 (searchD0 s cap) tried (measure-d0-told s cap (more (tried ∷ [])) (omega arith) .0 e .2))
+      missed-beyond (masked-decides s) cap (missedD0 (searchD0 s cap) tried (measure-d0-told s cap (more (tried ∷ [])) refl refl .0 e .2))
 
   -- "the radius to print on the plate: half of d1, rounded down, or half of the cap, rounded down, where d1 is more than the cap"
   pub answered-d1 : (d tried radius : ℕ) → measuresD1 s cap ≡ answer (d ∷ tried ∷ radius ∷ [])
-      → Measured (Hidden s) (s .n) cap d tried × (radius ≡ d / 2)
+      → Measured (Hidden s) (s .n) cap d tried × (radius ≡ printed d)
   unfolding searchD1
   answered-d1 d tried radius e =
-      let b = foundD1 cap (searchD1 s cap) d tried radius (measure-d1-told s cap (answer (d ∷ tried ∷ radius ∷ [])) (omega arith) .0 e .2) in
+      let b = foundD1 cap (searchD1 s cap) d tried radius (measure-d1-told s cap (answer (d ∷ tried ∷ radius ∷ [])) refl refl .0 e .2) in
       (subst (λ (v : ℕ). Measured (Hidden s) (s .n) cap v tried) (b .2) (found-measured (hidden-decides s) cap (b .1)), b .3)
 
-  pub more-d1 : (tried radius : ℕ) → measuresD1 s cap ≡ more (tried ∷ radius ∷ []) → Beyond (Hidden s) (s .n) cap tried × (radius ≡ cap / 2)
+  pub more-d1 : (tried radius : ℕ) → measuresD1 s cap ≡ more (tried ∷ radius ∷ []) → Beyond (Hidden s) (s .n) cap tried × (radius ≡ printedBeyond cap)
   unfolding searchD1
   more-d1 tried radius e =
-      let b = missedD1 cap (searchD1 s cap) tried radius (measure-d1-told s cap (more (tried ∷ radius ∷ [])) (omega arith) .0 e .2) in
+      let b = missedD1 cap (searchD1 s cap) tried radius (measure-d1-told s cap (more (tried ∷ radius ∷ [])) refl refl .0 e .2) in
       (missed-beyond (hidden-decides s) cap (b .0), b .1)
 
-  module _ (ok : Admitted s) (from : 1 ≤ cap) (to : cap ≤ 8) (d : ℕ) where
+  module _ (ok : Admitted s) (from : 1 ≤ cap) (to : cap ≤ mostCap) (d : ℕ) where
     -- "A measured distance equals the defined one; "more than the cap" is answered exactly when the defined one is above the cap"
     pub measured-d0 : D0 s d
         → (d ≤ cap → (tried : ℕ) × (measuresD0 s cap ≡ answer (d ∷ tried ∷ []))) × (cap < d → (tried : ℕ) × (measuresD0 s cap ≡ more (tried ∷ [])))
@@ -248,11 +233,11 @@ module _ (s : Sheet) (cap : ℕ) where
     )
 
     pub measured-d1 : D1 s d
-        → (d ≤ cap → (tried : ℕ) × (measuresD1 s cap ≡ answer (d ∷ tried ∷ d / 2 ∷ [])))
-        × (cap < d → (tried : ℕ) × (measuresD1 s cap ≡ more (tried ∷ cap / 2 ∷ [])))
+        → (d ≤ cap → (tried : ℕ) × (measuresD1 s cap ≡ answer (d ∷ tried ∷ printed d ∷ [])))
+        × (cap < d → (tried : ℕ) × (measuresD1 s cap ≡ more (tried ∷ printedBeyond cap ∷ [])))
     unfolding searchD1
     measured-d1 h = (
       λ l. let f = within-found (hidden-decides s) cap h l in
-          (f .1, measuresD1-on s ok cap from to ∙ ap (plateD1 cap) (f .2) ∙ ap (λ (v : ℕ). answer (v ∷ f .1 ∷ v / 2 ∷ [])) (f .3)),
+          (f .1, measuresD1-on s ok cap from to ∙ ap (plateD1 cap) (f .2) ∙ ap (λ (v : ℕ). answer (v ∷ f .1 ∷ printed v ∷ [])) (f .3)),
       λ l. let f = above-missed (hidden-decides s) cap h l in (f .0, measuresD1-on s ok cap from to ∙ ap (plateD1 cap) (f .1)),
     )

@@ -14,16 +14,16 @@ use lib.ListN.{length}
 use Rattle.paper.specs.Words.{products, _⊕_}
 use Rattle.paper.specs.Listing.{Search, found, missed, weights}
 use Rattle.paper.specs.Refusals.{answer, refusal}
-use Rattle.paper.specs.Sheet.{Sheet, H, M, Admitted, Codeword, WordOf}
-use Rattle.paper.specs.Reading.{nearest, heard, reads}
+use Rattle.paper.specs.Sheet.{Sheet, H, M, Admitted, Codeword}
+use Rattle.paper.specs.Reading.{mostRadius, nearest, heard, reads}
+use Rattle.paper.specs.Promised.{Before, Nearest}
 use Rattle.words.proofs.Sums.{⊕-cancel, ⊕-lt}
-use Rattle.listing.specs.Searches.{Before}
 use Rattle.listing.proofs.Searched.{found-first, missed-none, hit-found}
 use Rattle.promises.proofs.Tests.{not-below}
-use Rattle.sheet.proofs.Rules.{rank}
+use Rattle.rules.proofs.Rules.{not-told}
 use Rattle.promises.proofs.Answers.{read-told, reads-on}
 use Rattle.promises.proofs.Order.{read-12}
-use Rattle.promises.proofs.Places.{Placed, found-placed}
+use Rattle.promises.proofs.Places.{found-placed}
 
 -- the list goes by weight
 pub before-weight : (a b : ℕ) → Before a b → ones a ≤ ones b
@@ -37,15 +37,6 @@ before-all z u end h f = go (decLt (ones u) end)
     go : Dec (ones u < end) → Before z u
     go (yes l) = f l
     go (no l) = inl (omega arith)
-
--- "the message of y + z, z itself, and how many listed words were tried", z being the first listed word for which y + z is a codeword
-pub record Nearest (s : Sheet) (y t m z tried : ℕ) : Type 0 where
-  pub message : WordOf s m (y ⊕ z)
-  pub cells : z < 2 ^ s .n
-  pub within : ones z ≤ t
-  -- of the nearest codewords, the one whose difference from y stands first in the list
-  pub first : (u : ℕ) → u < 2 ^ s .n → Codeword s (y ⊕ u) → Before z u
-  pub place : Placed (λ u. Codeword s (y ⊕ u)) (weights (s .n) 0 (t + 1)) z tried
 
 module _ (s : Sheet) (y : ℕ) (low : y < 2 ^ s .n) where
   -- the test of the search
@@ -64,7 +55,7 @@ module _ (s : Sheet) (y : ℕ) (low : y < 2 ^ s .n) where
     pub read-first : (m z tried : ℕ) → reads s y t ≡ answer (m ∷ z ∷ tried ∷ []) → Nearest s y t m z tried
     unfolding nearest
     read-first m z tried e =
-        let a = read-told s y t (answer (m ∷ z ∷ tried ∷ [])) (omega arith) .0 e in
+        let a = read-told s y t (answer (m ∷ z ∷ tried ∷ [])) refl refl refl .0 e in
         let b = named (nearest s y t) (a .3) in
         let f = found-first hits (s .n) 0 (t + 1) (b .0) in
         let c = hits-only z (f .cells) (f .passes) in
@@ -80,7 +71,7 @@ module _ (s : Sheet) (y : ℕ) (low : y < 2 ^ s .n) where
         named (found x u) q =
             let p : x ≡ z = cc in let p′ : u ≡ tried = cc in let p″ : products (M s) (y ⊕ x) ≡ m = cc in
             (cc, ap (λ (v : ℕ). products (M s) (y ⊕ v)) (sym p) ∙ p″)
-        named (missed u) q = absurd (omega (arith, ap rank q))
+        named (missed u) q = not-told q refl
 
     -- no codeword is nearer
     pub read-nearest : (m z tried : ℕ) → reads s y t ≡ answer (m ∷ z ∷ tried ∷ []) → (x : ℕ) → Codeword s x → ones z ≤ ones (y ⊕ x)
@@ -105,7 +96,7 @@ module _ (s : Sheet) (y : ℕ) (low : y < 2 ^ s .n) where
         )
 
     -- and always if none does
-    pub far-refused : Admitted s → t ≤ 4 → ((x : ℕ) → Codeword s x → t < ones (y ⊕ x))
+    pub far-refused : Admitted s → t ≤ mostRadius → ((x : ℕ) → Codeword s x → t < ones (y ⊕ x))
         → reads s y t ≡ refusal 12 (length (weights (s .n) 0 (t + 1)) ∷ [])
     unfolding nearest
     far-refused ok h far = reads-on s ok y t low h ∙ go (nearest s y t) refl
@@ -117,7 +108,7 @@ module _ (s : Sheet) (y : ℕ) (low : y < 2 ^ s .n) where
             absurd (omega (arith, f .high, far (y ⊕ z) (hits-only z (f .cells) (f .passes)), ap ones (⊕-cancel y z)))
 
     -- a codeword within the radius is read
-    pub near-read : Admitted s → t ≤ 4 → (u : ℕ) → u < 2 ^ s .n → Codeword s (y ⊕ u) → ones u ≤ t
+    pub near-read : Admitted s → t ≤ mostRadius → (u : ℕ) → u < 2 ^ s .n → Codeword s (y ⊕ u) → ones u ≤ t
         → (m : ℕ) × (z : ℕ) × (tried : ℕ) × (reads s y t ≡ answer (m ∷ z ∷ tried ∷ []))
     unfolding nearest
     near-read ok h u l c near =

@@ -1,8 +1,10 @@
 -- "Useless builds to be tried against the contracts": no function that tells what its call's definition tells is one of them.
--- Each is shut out by the theorem that document 01 names for it. A build answers as such a function does wherever its contract speaks. Assumes nothing.
+-- Each is shut out by the theorem that document 01 names for it; "tried" and "more than the cap" by what a measurement says of them (Plate).
+-- A build answers as such a function does wherever its contract speaks. Assumes nothing.
 use mathlib.Core.Path.{_≡_, refl, sym, ap, _∙_}
 use mathlib.Core.List.{List, [], _∷_}
-use Prim.Native.Nat.{ℕ, _+_, _/_, _^_, _≤_, _<_}
+use Prim.Native.Nat.{ℕ, _+_, _^_, _≤_, _<_}
+use native.Mathlib.Decide.{decLt}
 use native.Mathlib.Omega.{arith}
 use lib.Count.{ones}
 use lib.ListN.{length}
@@ -10,11 +12,12 @@ use lib.Pow.{pow-pos, pow-lt}
 use Rattle.paper.specs.First.{first}
 use Rattle.paper.specs.Listing.{listed, weights, search}
 use Rattle.paper.specs.Words.{products, sum, _⊕_}
-use Rattle.paper.specs.Refusals.{answer, refused, written, reading, measuredD0, measuredD1}
-use Rattle.paper.specs.Sheet.{Sheet, M, Admitted, judged, Codeword}
-use Rattle.paper.specs.Writing.{wordOf, writes}
+use Rattle.paper.specs.Refusals.{Told, answer, refusal, refused, written, reading, measuredD0, measuredD1}
+use Rattle.paper.specs.Sheet.{Sheet, M, Admitted, judgedSums, judgedRows, judged, Codeword}
+use Rattle.paper.specs.Writing.{wordOf, writesAdmitted, writes}
 use Rattle.paper.specs.Reading.{reads}
-use Rattle.paper.specs.Plate.{Least, Masked, Hidden, searchD0, searchD1, D0, D1, measuresD0, measuresD1}
+use Rattle.paper.specs.Plate.{Masked, Hidden, searchD0, searchD1, D0, D1, printed, printedBeyond, measuresAdmittedD0, measuresAdmittedD1, measuresD0, measuresD1}
+use Rattle.paper.specs.Promised.{Stuck, Placed}
 use Rattle.paper.specs.declared.Refusal.{Refusal}
 use Rattle.paper.specs.declared.Written.{Written}
 use Rattle.paper.specs.declared.Written.the-variants as Written
@@ -25,19 +28,23 @@ use Rattle.paper.specs.declared.MeasuredD0.the-variants as MeasuredD0
 use Rattle.paper.specs.declared.MeasuredD1.{MeasuredD1}
 use Rattle.paper.specs.declared.MeasuredD1.the-variants as MeasuredD1
 use Rattle.words.proofs.Sums.{ones-zero}
-use Rattle.sheet.proofs.Verdicts.{sound, refused-is}
+use Rattle.sheet.proofs.Verdicts.{sound}
 use Rattle.promises.proofs.Pinned.{write-pinned, read-pinned}
 use Rattle.promises.proofs.Bench.{kitchen, attic}
-use Rattle.promises.proofs.Answers.{Stuck}
 use Rattle.promises.proofs.Writing.{written-fits, writes-free}
 use Rattle.promises.proofs.Reading.{read-first}
-use Rattle.promises.proofs.Places.{Placed, placed-once}
-use Rattle.promises.proofs.Plate.{Measured, least-once, beyond-least, d1-exists, d1-some, answered-d0, answered-d1, more-d0, more-d1}
-use Rattle.promises.proofs.Demand3.{d0-fits, d1-reads-back}
+use Rattle.promises.proofs.Places.{placed-once}
+use Rattle.promises.proofs.Plate.{beyond-least, d1-exists, d1-some, answered-d0, answered-d1, more-d0, more-d1}
+use Rattle.promises.proofs.Demand3.{d0-fits, d0-tight, d1-reads-back, d1-apart, d1-tight}
+use Rattle.promises.proofs.Box.{measured-admitted-d0, measured-fits, measured-refuses, measured-apart, measured-two}
 
 -- an answer is no refusal
 answered : (why : Refusal) {values : List ℕ} → refused why ≡ answer values → ⊥
-answered why e = let q = refused-is why in let p = q .2 in let z : _≡_ {A = ℕ} 0 1 = cc in omega arith
+answered why e = let z : _≡_ {A = ℕ} 0 1 = cc in omega arith
+
+-- the same of what is told
+told-answered : {t : Told} {number : ℕ} {given values : List ℕ} → t ≡ refusal number given → t ≡ answer values → ⊥
+told-answered p q = let z : _≡_ {A = ℕ} 0 1 = cc in omega arith
 
 -- every sheet has the messages 0 and 1
 one : (s : Sheet) → Admitted s → 1 < 2 ^ s .k
@@ -71,7 +78,7 @@ module _ (f : Sheet → ℕ → ℕ → ℕ → Written) (meets : (s : Sheet) (w
 
   -- "handing the message through as the word": not on the kitchen sheet
   pub not-handed : ((w stuck levels x d : ℕ) → f kitchen w stuck levels ≡ Written.Word x d → x ≡ w) → ⊥
-  unfolding writes judged first products sum _⊕_ ones
+  unfolding writes writesAdmitted judged judgedRows judgedSums first products sum _⊕_ ones
   not-handed through =
       omega (arith, through 5 0 0 85 0 (write-pinned kitchen 5 0 0 (f kitchen 5 0 0) (Written.Word 85 0) (meets kitchen 5 0 0) refl))
 
@@ -97,17 +104,38 @@ module _ (f : Sheet → ℕ → ℕ → Reading) (meets : (s : Sheet) (y t : ℕ
       → (z′ place : ℕ) → Placed (λ u. Codeword s (y ⊕ u)) (weights (s .n) 0 (t + 1)) z′ place → tried ≡ place
   tried-read s y t m z tried l e z′ place p = placed-once (read-first s y l t m z tried (sym (meets s y t) ∙ ap reading e) .place) p
 
--- what a plate says of the defined distance e, and its place
-true-measure : {P : ℕ → Type 0} {n cap d tried e : ℕ} → Measured P n cap d tried → Least P e
-    → (d ≡ e) × (e ≤ cap) × ((z place : ℕ) → Placed P (weights n 1 cap) z place → tried ≡ place)
-true-measure m h = (least-once (m .distance) h, omega (arith, least-once (m .distance) h, m .within), λ z place p. placed-once (m .place) p)
-
 module _ (f : Sheet → ℕ → MeasuredD0) (meets : (s : Sheet) (cap : ℕ) → measuredD0 (f s cap) ≡ measuresD0 s cap) where
   module _ (s : Sheet) (cap tried d0 : ℕ) (D : D0 s d0) where
-    -- "a timid d0 ..; a boastful one": no other than the defined one, and within the cap; no "invented "tried"": there is one place
-    pub true-d0 : (d : ℕ) → f s cap ≡ MeasuredD0.Distance d tried
-        → (d ≡ d0) × (d0 ≤ cap) × ((z place : ℕ) → Placed (Masked s) (weights (s .n) 1 cap) z place → tried ≡ place)
-    true-d0 d e = true-measure (answered-d0 s cap d tried (sym (meets s cap) ∙ ap measuredD0 e)) D
+    module _ (d : ℕ) (e : f s cap ≡ MeasuredD0.Distance d tried) where
+      told-d0 : measuresD0 s cap ≡ answer (d ∷ tried ∷ [])
+      told-d0 = sym (meets s cap) ∙ ap measuredD0 e
+
+      ok-d0 : Admitted s
+      ok-d0 = measured-admitted-d0 s cap d tried told-d0
+
+      -- "a timid d0: by the d0 stuck cells that are refused"
+      pub not-timid-d0 : d0 ≤ d
+      not-timid-d0 = go (decLt d d0)
+        where
+          go : Dec (d < d0) → d0 ≤ d
+          go (no n) = omega arith
+          go (yes l) =
+              let r = measured-refuses s cap d tried told-d0 0 (pow-pos (s .k)) in
+              absurd (told-answered (r .4) (d0-fits s ok-d0 0 (pow-pos (s .k)) (r .0) (r .1) (r .2) d0 D (omega (arith, r .3)) .2))
+
+      -- "a boastful one: by demand 3's first half"
+      pub not-boastful-d0 : d ≤ d0
+      not-boastful-d0 = go (decLt d0 d)
+        where
+          go : Dec (d0 < d) → d ≤ d0
+          go (no n) = omega arith
+          go (yes l) =
+              let r = d0-tight s ok-d0 0 (pow-pos (s .k)) d0 D in
+              absurd (told-answered (r .4) (measured-fits s cap d tried told-d0 0 (r .0) (r .1) (pow-pos (s .k)) (r .2) (omega (arith, r .3)) .2))
+
+      -- no "invented "tried"": "by the place in the list"
+      pub tried-d0 : (z place : ℕ) → Placed (Masked s) (weights (s .n) 1 cap) z place → tried ≡ place
+      tried-d0 z place p = placed-once (answered-d0 s cap d tried told-d0 .place) p
 
     -- ""more than the cap": by the exact condition for that answer", all of the list having been tried
     pub true-more-d0 : f s cap ≡ MeasuredD0.More tried → (cap < d0) × (tried ≡ length (weights (s .n) 1 cap))
@@ -115,7 +143,7 @@ module _ (f : Sheet → ℕ → MeasuredD0) (meets : (s : Sheet) (cap : ℕ) →
 
   -- "a plate that always says "more than the cap"": not of the attic sheet
   pub not-always-more-d0 : ((cap : ℕ) → (tried : ℕ) × (f attic cap ≡ MeasuredD0.More tried)) → ⊥
-  unfolding measuresD0 searchD0 judged first weights listed search products sum _⊕_ ones
+  unfolding measuresD0 measuresAdmittedD0 searchD0 judged judgedRows judgedSums first weights listed search products sum _⊕_ ones
   not-always-more-d0 all =
       let p : measuredD0 (f attic 8) ≡ answer (3 ∷ 7 ∷ []) = meets attic 8 in
       let q = ap measuredD0 (all 8 .1) in
@@ -123,16 +151,31 @@ module _ (f : Sheet → ℕ → MeasuredD0) (meets : (s : Sheet) (cap : ℕ) →
 
 module _ (f : Sheet → ℕ → MeasuredD1) (meets : (s : Sheet) (cap : ℕ) → measuredD1 (f s cap) ≡ measuresD1 s cap) where
   module _ (s : Sheet) (cap tried radius d1 : ℕ) (D : D1 s d1) where
-    -- "a timid or boastful d1, by one included": no other than the defined one; and so the place, and the radius to print
-    pub true-d1 : (d : ℕ) → f s cap ≡ MeasuredD1.Distance d tried radius
-        → ((d ≡ d1) × (d1 ≤ cap) × ((z place : ℕ) → Placed (Hidden s) (weights (s .n) 1 cap) z place → tried ≡ place)) × (radius ≡ d / 2)
-    true-d1 d e = let a = answered-d1 s cap d tried radius (sym (meets s cap) ∙ ap measuredD1 e) in (true-measure (a .0) D, a .1)
+    module _ (d : ℕ) (e : f s cap ≡ MeasuredD1.Distance d tried radius) where
+      told-d1 : measuresD1 s cap ≡ answer (d ∷ tried ∷ radius ∷ [])
+      told-d1 = sym (meets s cap) ∙ ap measuredD1 e
 
-    pub true-more-d1 : f s cap ≡ MeasuredD1.More tried radius → (cap < d1) × (tried ≡ length (weights (s .n) 1 cap)) × (radius ≡ cap / 2)
+      -- "a timid or boastful d1, by one included: by the two codewords exactly d1 apart and none nearer"
+      pub not-timid-d1 : d1 ≤ d
+      not-timid-d1 =
+          let r = measured-two s cap d tried radius told-d1 in omega (arith, d1-apart s d1 D (r .0) (r .1) (r .2) (r .3) (r .4), r .5)
+
+      pub not-boastful-d1 : d ≤ d1
+      not-boastful-d1 =
+          let r = d1-tight s d1 D in omega (arith, measured-apart s cap d tried radius told-d1 (r .0) (r .1) (r .2) (r .3) (r .4), r .5)
+
+      -- the place, and the radius to print
+      pub tried-d1 : (z place : ℕ) → Placed (Hidden s) (weights (s .n) 1 cap) z place → tried ≡ place
+      tried-d1 z place p = placed-once (answered-d1 s cap d tried radius told-d1 .0 .place) p
+
+      pub true-radius : radius ≡ printed d
+      true-radius = answered-d1 s cap d tried radius told-d1 .1
+
+    pub true-more-d1 : f s cap ≡ MeasuredD1.More tried radius → (cap < d1) × (tried ≡ length (weights (s .n) 1 cap)) × (radius ≡ printedBeyond cap)
     true-more-d1 e = let b = more-d1 s cap tried radius (sym (meets s cap) ∙ ap measuredD1 e) in (beyond-least (b .0) D, b .0 .whole, b .1)
 
   pub not-always-more-d1 : ((cap : ℕ) → (tried : ℕ) × (radius : ℕ) × (f attic cap ≡ MeasuredD1.More tried radius)) → ⊥
-  unfolding measuresD1 searchD1 judged first weights listed search products sum _⊕_ ones
+  unfolding measuresD1 measuresAdmittedD1 searchD1 judged judgedRows judgedSums first weights listed search products sum _⊕_ ones
   not-always-more-d1 all =
       let p : measuredD1 (f attic 8) ≡ answer (1 ∷ 1 ∷ 0 ∷ []) = meets attic 8 in
       let q = ap measuredD1 (all 8 .2) in

@@ -1,10 +1,14 @@
--- Tests of the code, said of what the definitions test. Assumes nothing.
-use mathlib.Core.Path.{_≡_, sym, _∙_}
-use mathlib.Core.Bool.{true, false}
+-- Tests of the code, said of what the definitions test.
+-- For the loops that judge a sheet. Assumes nothing.
+use mathlib.Core.Path.{_≡_, sym, ap, _∙_}
+use mathlib.Core.Bool.{Bool, true, false}
+use mathlib.Core.List.{List}
 use Prim.Native.Nat.{ℕ, _^_}
 use native.Mathlib.Omega.{arith}
 use borrow.Author.Tests.{eq-eqb, ne-eqb, le-leb, lt-leb, ltb-true, ltb-false}
 use lib.Dec.{eqb, leb, ltb}
+use lib.ListN.{length}
+use Rattle.paper.specs.First.{First, first}
 
 -- numbers that the code computed, for those that the definition names
 pub eqb-yes : {r s x y : ℕ} → r ≡ x → s ≡ y → r ≡ s → eqb x y ≡ true
@@ -19,3 +23,8 @@ stray-yes n x e = le-leb (2 ^ n) x (omega (arith, ltb-false x (2 ^ n) e))
 
 pub stray-no : (n x : ℕ) → ltb x (2 ^ n) ≡ true → leb (2 ^ n) x ≡ false
 stray-no n x e = lt-leb (2 ^ n) x (omega (arith, ltb-true x (2 ^ n) e))
+
+-- what is found in a part of the rows, the part having been named by its list and its length
+pub found-in : (test : List ℕ → ℕ → Bool) {f : First} (part : List ℕ) {rows : List ℕ} {count : ℕ}
+    → part ≡ rows → length rows ≡ count → f ≡ first (length part) (test part) → f ≡ first count (test rows)
+found-in test part {rows} e h q = q ∙ ap (λ (xs : List ℕ). first (length xs) (test xs)) e ∙ ap (λ (m : ℕ). first m (test rows)) h

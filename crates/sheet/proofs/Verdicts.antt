@@ -1,9 +1,10 @@
--- What the verdict on a sheet says: a refused sheet is refused by every call alike, and an admitted one is sound. Assumes nothing.
+-- What the verdict on a sheet says: a refused sheet is refused by every call alike, and an admitted one is sound.
+-- Every call and every theorem starts from these. Assumes nothing.
 use mathlib.Core.Path.{_≡_, refl, sym, ap, _∙_, subst}
 use mathlib.Core.Bool.{Bool, true, false, cond, not, _&&_, true≢false, and-eq-true-iff}
 use mathlib.Core.Logic.{_↔_, Iff·rfl}
 use mathlib.Core.List.{List, [], _∷_}
-use Prim.Native.Nat.{ℕ, suc, _+_, _-_, _^_, _≤_, _<_}
+use Prim.Native.Nat.{ℕ, suc, _+_, _^_, _≤_, _<_}
 use native.Mathlib.Decide.{ℕ-discrete}
 use native.Mathlib.Omega.{arith}
 use borrow.Author.Tests.{leb-true, leb-false, eqb-true, eq-eqb, ne-eqb}
@@ -11,18 +12,18 @@ use lib.Dec.{leb, eqb}
 use lib.ListN.{length, getD, take, drop, length-take, length-drop}
 use lib.Pow.{pow-lt}
 use lib.Seq.{getD-take, getD-drop}
-use Rattle.paper.specs.First.{First, nowhere, at, first}
+use Rattle.paper.specs.First.{First, nowhere, first}
 use Rattle.paper.specs.Words.{width, cell, product, products}
-use Rattle.paper.specs.Refusals.{Told, answer, refusal, refused, unless, unlessAt}
-use Rattle.paper.specs.Sheet.{Sheet, r, G1, G0, H, M, G, shaped, stray, wanted, off, offCode, offMessage, dependent, judged, admits, Admitted}
+use Rattle.paper.specs.Refusals.{Told, answer, refusal, refused}
+use Rattle.paper.specs.Sheet.{Sheet, r, G1, G0, H, M, G, shaped, stray, wanted, off, offCode, offMessage, dependent, judgedSums, judgedRows, judged, admits, Admitted}
 use Rattle.paper.specs.declared.Refusal.{Refusal}
-use Rattle.paper.specs.declared.Refusal.the-variants.{Shape, Stray, OffCode, OffMessage, DependentG0, DependentH, Message, Stuck, NoWord, ReadWord, Limit, NoCodeword}
 use Rattle.words.proofs.Cells.{ext, no-cell, cell-unit, cell-unit-other}
 use Rattle.words.proofs.Products.{product-comm, cell-products, products-lt}
 use Rattle.words.proofs.Firsts.{first-all, any-all}
 use Rattle.elimination.proofs.Span.{All, Low}
 use Rattle.sheet.specs.Sound.{Shaped, Sound}
-use Rattle.sheet.proofs.Rules.{rank, past, past-at}
+use Rattle.rules.proofs.Rules.{isRefusal, ofSheet, not-of-sheet, not-told, past, past-at}
+use Rattle.rules.proofs.Stages.{Stage, unless-stage, unlessAt-stage, then, refused-alike, alike-refused}
 
 -- ---- an admitted sheet passes each rule
 
@@ -51,58 +52,41 @@ pub record Passed (s : Sheet) : Type 0 where
   pub sums-G0 : G0-row s ≡ nowhere
   pub sums-H : H-row s ≡ nowhere
 
--- what a later rule tells, or an answer, is told past the first six rules
-through : (s : Sheet) (next t : Told) → 6 < rank t → judged s next ≡ t → Passed s × (next ≡ t)
-unfolding judged
+-- what no rule of the sheet tells is told past them all
+through : (s : Sheet) (next t : Told) → ofSheet t ≡ false → judged s next ≡ t → Passed s × (next ≡ t)
+unfolding judged judgedRows judgedSums
 through s next t h e =
-    let a = past 1 _ (shaped s) Iff·rfl t (omega arith) .0 e in
-    let b = past-at 2 _ (stray-row s) 0 t (omega arith) .0 (a .1) in
-    let c = past-at 3 _ (code-row s) 0 t (omega arith) .0 (b .1) in
-    let d = past-at 4 _ (message-row s) 0 t (omega arith) .0 (c .1) in
-    let f = past-at 5 _ (G0-row s) (s .k) t (omega arith) .0 (d .1) in
-    let g = past-at 6 next (H-row s) (s .k + s .l) t (omega arith) .0 (f .1) in
+    let other : (i : ℕ) → i ≤ 6 → isRefusal i t ≡ false = λ i l. not-of-sheet i t l h in
+    let a = past 1 _ (shaped s) Iff·rfl t (other 1 (omega arith)) .0 e in
+    let b = past-at 2 _ (stray-row s) 0 t (other 2 (omega arith)) .0 (a .1) in
+    let c = past-at 3 _ (code-row s) 0 t (other 3 (omega arith)) .0 (b .1) in
+    let d = past-at 4 _ (message-row s) 0 t (other 4 (omega arith)) .0 (c .1) in
+    let f = past-at 5 _ (G0-row s) (s .k) t (other 5 (omega arith)) .0 (d .1) in
+    let g = past-at 6 next (H-row s) (s .k + s .l) t (other 6 (omega arith)) .0 (f .1) in
     (record { shape = a .0; strays = b .0; codes = c .0; messages = d .0; sums-G0 = f .0; sums-H = g .0 }, g .1)
 
 -- and a sheet that passes them passes to what comes next
 passed-next : (s : Sheet) → Passed s → (next : Told) → judged s next ≡ next
-unfolding judged
+unfolding judged judgedRows judgedSums
 passed-next s p next = rw (p .shape, p .strays, p .codes, p .messages, p .sums-G0, p .sums-H)
 
 passed : (s : Sheet) → Admitted s → Passed s
-passed s ok = through s (answer []) (answer []) (omega arith) ok .0
+passed s ok = through s (answer []) (answer []) refl ok .0
 
 -- an admitted sheet passes to what comes next
 pub admitted-next : (s : Sheet) → Admitted s → (next : Told) → judged s next ≡ next
 admitted-next s ok = passed-next s (passed s ok)
 
--- "Order: 1 to 6 for every call": what a later rule tells, or an answer, is told of admitted sheets alone
-pub past-judged : (s : Sheet) (next t : Told) → 6 < rank t → (judged s next ≡ t) ↔ (Admitted s × (next ≡ t))
+-- "Order: 1 to 6 for every call": what no rule of the sheet tells is told of admitted sheets alone
+pub past-judged : (s : Sheet) (next t : Told) → ofSheet t ≡ false → (judged s next ≡ t) ↔ (Admitted s × (next ≡ t))
 past-judged s next t h =
     (λ e. let q = through s next t h e in (passed-next s (q .0) (answer []), q .1), λ p. admitted-next s (p .0) next ∙ p .1)
 
 -- ---- a refused sheet is refused alike by every call
 
--- a rule refuses whatever comes next, or passes to it
-data Stage (f : Told → Told) : Type 0 where
-  passes : ((next : Told) → f next ≡ next) → Stage f
-  refuses : (number : ℕ) (given : List ℕ) → ((next : Told) → f next ≡ refusal number given) → Stage f
-
-unless-stage : (test : Bool) (number : ℕ) → Stage (unless test number)
-unless-stage true number = passes (λ next. refl)
-unless-stage false number = refuses number [] (λ next. refl)
-
-unlessAt-stage : (place : First) (number base : ℕ) → Stage (unlessAt place number base)
-unlessAt-stage nowhere number base = passes (λ next. refl)
-unlessAt-stage (at i) number base = refuses number ((base + i) ∷ []) (λ next. refl)
-
--- two rules, one after the other
-then : {f g : Told → Told} → Stage f → Stage g → Stage (λ next. f (g next))
-then {f} {g} (passes p) (passes q) = passes (λ next. p (g next) ∙ q next)
-then {f} {g} (passes p) (refuses number given q) = refuses number given (λ next. p (g next) ∙ q next)
-then {f} {g} (refuses number given p) q = refuses number given (λ next. p (g next))
-
+-- the sheet's rules as one chain
 judged-stage : (s : Sheet) → Stage (judged s)
-unfolding judged
+unfolding judged judgedRows judgedSums
 judged-stage s =
     then (unless-stage (shaped s) 1)
     (then (unlessAt-stage (stray-row s) 2 0)
@@ -110,41 +94,15 @@ judged-stage s =
     (then (unlessAt-stage (message-row s) 4 0)
     (then (unlessAt-stage (G0-row s) 5 (s .k)) (unlessAt-stage (H-row s) 6 (s .k + s .l))))))
 
--- a refusal of the sheet is every call's
-pub refused-next : (s : Sheet) {number : ℕ} {given : List ℕ} → admits s ≡ refusal number given → (next : Told) → judged s next ≡ refusal number given
-refused-next s {number} {given} e = go (judged-stage s)
-  where
-    go : Stage (judged s) → (next : Told) → judged s next ≡ refusal number given
-    go (passes p) next = let z : _≡_ {A = ℕ} 0 1 = cc (p (answer [])) in absurd (omega arith)
-    go (refuses m g p) next = p next ∙ sym (p (answer [])) ∙ e
-
 -- "Every call answers as if it checked the sheet afresh": what rules 1 to 6 tell, every call tells alike
-pub sheet-told : (s : Sheet) (next : Told) → 6 < rank next → (number : ℕ) (given : List ℕ) → number ≤ 6
+pub sheet-told : (s : Sheet) (next : Told) → ofSheet next ≡ false → (number : ℕ) (given : List ℕ) → number ≤ 6
     → (judged s next ≡ refusal number given) ↔ (admits s ≡ refusal number given)
-sheet-told s next late number given h = (go (judged-stage s), λ e. refused-next s e next)
-  where
-    go : Stage (judged s) → judged s next ≡ refusal number given → admits s ≡ refusal number given
-    go (passes p) e = absurd (omega (arith, ap rank (sym (p next) ∙ e)))
-    go (refuses m g p) e = p (answer []) ∙ sym (p next) ∙ e
-
--- every reason tells a refusal
-pub refused-is : (why : Refusal) → (number : ℕ) × (given : List ℕ) × (refused why ≡ refusal number given)
-refused-is Shape = (1, [], refl)
-refused-is (Stray row) = (2, row ∷ [], refl)
-refused-is (OffCode row) = (3, row ∷ [], refl)
-refused-is (OffMessage row) = (4, row ∷ [], refl)
-refused-is (DependentG0 row) = (5, row ∷ [], refl)
-refused-is (DependentH row) = (6, row ∷ [], refl)
-refused-is Message = (7, [], refl)
-refused-is (Stuck cell) = (8, cell ∷ [], refl)
-refused-is NoWord = (9, [], refl)
-refused-is (ReadWord cell) = (10, cell ∷ [], refl)
-refused-is Limit = (11, [], refl)
-refused-is (NoCodeword tried) = (12, tried ∷ [], refl)
+sheet-told s next late number given h =
+    (alike-refused (judged-stage s) next (λ e. not-told (sym e) (not-of-sheet number next h late)), λ e. refused-alike (judged-stage s) e next)
 
 -- the code's way: the reason that admission gave is the call's answer
 pub refused-call : (s : Sheet) (why : Refusal) → refused why ≡ admits s → (next : Told) → refused why ≡ judged s next
-refused-call s why e next = let q = refused-is why in q .2 ∙ sym (refused-next s (sym e ∙ q .2) next)
+refused-call s why e next = sym (refused-alike (judged-stage s) (sym e) next)
 
 -- ---- and so it is sound
 

@@ -1,3 +1,2 @@
--- What an admitted sheet is, as facts, and the verdict in the steps in which the code finds it.
+-- What an admitted sheet is, as facts.
 pub mod Sound
-pub mod Steps

@@ -1,25 +1,26 @@
 // Admitting a sheet: refusals 1 to 6 of document 01, in the order of its table.
 ghost use mathlib.Core.Path.{_≡_};
+ghost use mathlib.Core.List.{[]};
 ghost use Prim.Native.Nat.{_+_, _^_, _≤_, _<_};
 ghost use lib.Dec.{leb};
 ghost use lib.ListN.{length, getD, take, drop};
 ghost use Rattle.paper.specs.First.{first};
-ghost use Rattle.paper.specs.Refusals.{admission};
-ghost use Rattle.paper.specs.Sheet.{sheet, shaped, wanted, off, admits};
+ghost use Rattle.paper.specs.Refusals.{answer, admission};
+ghost use Rattle.paper.specs.Sheet.{sheet, shaped, wanted, off, judgedSums, judgedRows, admits};
 ghost use Rattle.paper.specs.Words.{width};
-ghost use Rattle.words.specs.Places.{placed};
+ghost use Rattle.words.specs.Places.{asFirst};
 ghost use Rattle.sheet.specs.Sound.{Shaped};
-ghost use Rattle.sheet.specs.Steps.{sums, rules};
 use elimination::first_dependent;
 use paper::Admission;
 use paper::Refusal;
 use paper::WIDTH;
+use paper::Word;
 use words::Place;
 use words::is_low;
 use words::product_of;
 
 // The rows from `from` on, `count` of them: one of the sheet's four parts.
-pub fn part(rows: &[u32], from: u32, count: u32) -> &[u32]
+pub fn part(rows: &[Word], from: u32, count: u32) -> &[Word]
     requires { ⌜ from + count ≤ length (now rows) ⌝ }
     ensures { λ r. ⌜ now r ≡ take count (drop from (now (rows .entry))) ⌝ }
 {
@@ -29,7 +30,7 @@ pub fn part(rows: &[u32], from: u32, count: u32) -> &[u32]
 }
 
 // "1 ≤ n ≤ 32, k ≥ 1, k + l ≤ n, the lent rows are n + k in number". n, k and l are any numbers: no sum is taken that could wrap.
-fn is_shaped(n: u32, k: u32, l: u32, rows: &[u32]) -> bool
+fn is_shaped(n: u32, k: u32, l: u32, rows: &[Word]) -> bool
     ensures { λ r. ⌜ r ≡ shaped (sheet n k l (now (rows .entry))) ⌝ }
 {
     if n < 1 {
@@ -51,9 +52,9 @@ fn is_shaped(n: u32, k: u32, l: u32, rows: &[u32]) -> bool
 }
 
 // The first row that "has a bit at cell n or above".
-fn find_stray(n: u32, rows: &[u32]) -> Place
+fn find_stray(n: u32, rows: &[Word]) -> Place
     requires { ⌜ (1 ≤ n) × (n ≤ width) × (length (now rows) < 2 ^ width) ⌝ }
-    ensures { λ r. ⌜ placed r ≡ first (length (now (rows .entry))) (λ i. leb (2 ^ n) (getD (now (rows .entry)) i 0)) ⌝ }
+    ensures { λ r. ⌜ asFirst r ≡ first (length (now (rows .entry))) (λ i. leb (2 ^ n) (getD (now (rows .entry)) i 0)) ⌝ }
 {
     let mut i = 0;
     while i < rows.len() {
@@ -66,16 +67,16 @@ fn find_stray(n: u32, rows: &[u32]) -> Place
 }
 
 // The product wanted of row i with row j of the others.
-fn wanted_of(own: u32, i: usize, j: usize) -> u32
+fn wanted_of(own: Word, i: usize, j: usize) -> Word
     ensures { λ r. ⌜ r ≡ wanted own i j ⌝ }
 {
     if i == j { own } else { 0 }
 }
 
 // "the first row in sheet order at which the rule breaks": the loops over the rows of G and of H or M are left at the first breaking pair.
-fn find_off(own: u32, gs: &[u32], others: &[u32]) -> Place
+fn find_off(own: Word, gs: &[Word], others: &[Word]) -> Place
     requires { ⌜ length (now gs) ≤ width ⌝ }
-    ensures { λ r. ⌜ placed r ≡ first (length (now (gs .entry))) (off own (now (gs .entry)) (now (others .entry))) ⌝ }
+    ensures { λ r. ⌜ asFirst r ≡ first (length (now (gs .entry))) (off own (now (gs .entry)) (now (others .entry))) ⌝ }
 {
     let mut i = 0;
     'rows: loop {
@@ -92,9 +93,9 @@ fn find_off(own: u32, gs: &[u32], others: &[u32]) -> Place
 }
 
 // Rules 5 and 6: "no row of G0 is a sum of earlier rows of G0 .., and the same for H".
-fn judge_sums(n: u32, k: u32, l: u32, rows: &[u32]) -> Admission
+fn judge_sums(n: u32, k: u32, l: u32, rows: &[Word]) -> Admission
     requires { ⌜ Shaped (sheet n k l (now rows)) ⌝ }
-    ensures { λ r. ⌜ admission r ≡ sums (sheet n k l (now (rows .entry))) ⌝ }
+    ensures { λ r. ⌜ admission r ≡ judgedSums (sheet n k l (now (rows .entry))) (answer []) ⌝ }
 {
     let g = k + l;
     if let Place::At(j) = first_dependent(part(rows, k, l)) {
@@ -107,9 +108,9 @@ fn judge_sums(n: u32, k: u32, l: u32, rows: &[u32]) -> Admission
 }
 
 // Rules 2 to 4, each "tried on all rows before the next rule", and then the sums.
-fn judge_rows(n: u32, k: u32, l: u32, rows: &[u32]) -> Admission
+fn judge_rows(n: u32, k: u32, l: u32, rows: &[Word]) -> Admission
     requires { ⌜ Shaped (sheet n k l (now rows)) ⌝ }
-    ensures { λ r. ⌜ admission r ≡ rules (sheet n k l (now (rows .entry))) ⌝ }
+    ensures { λ r. ⌜ admission r ≡ judgedRows (sheet n k l (now (rows .entry))) (answer []) ⌝ }
 {
     let g = k + l;
     if let Place::At(row) = find_stray(n, rows) {
@@ -126,7 +127,7 @@ fn judge_rows(n: u32, k: u32, l: u32, rows: &[u32]) -> Admission
 }
 
 // Whether the sheet is admitted, or the first rule that it breaks and where.
-pub fn admit(n: u32, k: u32, l: u32, rows: &[u32]) -> Admission
+pub fn admit(n: u32, k: u32, l: u32, rows: &[Word]) -> Admission
     ensures { λ r. ⌜ admission r ≡ admits (sheet n k l (now (rows .entry))) ⌝ }
 {
     if is_shaped(n, k, l, rows) {

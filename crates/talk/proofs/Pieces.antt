@@ -6,8 +6,8 @@ use mathlib.Core.List.{List, [], _∷_, _++_, append-assoc}
 use Prim.Native.Nat.{ℕ, suc, _+_, _≤_, _<_, min}
 use native.Mathlib.Omega.{arith}
 use lib.Dec.{eqb, ltb}
-use lib.ListN.{length, take, drop, length-drop, drop-of-length-le}
-use lib.Seq.{drop-drop, take-all}
+use lib.ListN.{length, take, drop, length-drop, drop-of-length-le, take-append-drop}
+use lib.Seq.{drop-drop, take-all, length-take-le}
 use borrow.Author.Tests.{ltb-true, ltb-false}
 use Rattle.text.specs.Tokens.{upTo, Whole, led, cut}
 use Rattle.text.proofs.Tokens.{pieces, upTo-take}
@@ -122,6 +122,13 @@ module _ (room : ℕ) (wide : 1 + roomLine < room) where
                 ∙ ap₂ (λ (l : List ℕ) (k : ℕ). l ++ talk (drop k input ++ later)) (sym (t ∙ ap (λ (l : List ℕ). reply (asked table l)) holds)) behind;
             whole = whole-nil 10;
           }
+
+-- the room of a line, by what `take_line` ensures: what is held, and behind it what was there
+pub line-left : (line line' held : List ℕ) (n : ℕ) → n ≤ length line' → take n line' ≡ held → drop n line' ≡ drop n line
+    → (n ≡ length held) × (line' ≡ held ++ drop (length held) line)
+line-left line line' held n h t d =
+    let e : n ≡ length held = sym (length-take-le n line' h) ∙ ap length t in
+    (e, sym (take-append-drop n line') ∙ ap₂ _++_ t (d ∙ ap (λ (k : ℕ). drop k line) e))
 
 -- ---- steps, one after the other
 

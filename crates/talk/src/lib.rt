@@ -5,14 +5,15 @@ use text::put;
 use text::take_line;
 use verbs::ask;
 use verbs::reply;
+ghost use mathlib.Core.Path.{_≡_};
 ghost use Prim.Native.Nat.{_*_, _≤_, _<_};
 ghost use lib.ListN.{length, take, drop};
 ghost use Rattle.text.specs.Tokens.{Whole};
 ghost use Rattle.text.specs.Puts.{Put};
-ghost use Rattle.lines.specs.Lines.{asked, roomLine};
+ghost use Rattle.lines.specs.Lines.{asked, askedIn, roomLine};
 ghost use Rattle.verbs.specs.Replies.{table, roomReply};
 ghost use Rattle.verbs.specs.Replies.{reply as Replies·reply};
-ghost use Rattle.talk.specs.Talk.{Rooms, Stepped};
+ghost use Rattle.talk.specs.Talk.{Rooms, Stepped, Left};
 
 // Puts the answer to a line, if it gets one.
 fn answer(line: &[u8], ns: &mut [Word], out: &mut [u8]) -> usize
@@ -20,6 +21,7 @@ fn answer(line: &[u8], ns: &mut [Word], out: &mut [u8]) -> usize
     requires { ⌜ roomReply (now ns) ≤ length (now out) ⌝ }
     ensures { λ r. ⌜ Put (now (out .entry)) 0 (Replies·reply (asked table (now (line .entry)))) r (now (out .exit)) ⌝ }
     ensures { λ r. ⌜ r ≤ length (now (out .entry)) ⌝ }
+    ensures { λ _. ⌜ now (ns .exit) ≡ askedIn table (now (line .entry)) (now (ns .entry)) ⌝ }
 {
     match ask(line, ns) {
         Line::Silent => 0,
@@ -54,6 +56,7 @@ pub fn take_step(
     requires { ⌜ Rooms (now line) (now ns) (now out) ⌝ }
     ensures { λ r. ⌜ Stepped (take held (now (line .entry))) (drop from (now (input .entry))) (take (r .at) (now (out .exit))) (take (r .held) (now (line .exit))) (drop (r .from) (now (input .entry))) ⌝ }
     ensures { λ r. ⌜ (from < r .from) × (r .from ≤ length (now (input .entry))) × (r .held ≤ length (now (line .entry))) × (r .at ≤ length (now (out .entry))) ⌝ }
+    ensures { λ r. ⌜ Left (now (input .entry)) from held (now (line .entry)) (now (ns .entry)) (now (out .entry)) r (now (line .exit)) (now (ns .exit)) (now (out .exit)) ⌝ }
 {
     let taken = take_line(input, from, line, held);
     let held = taken.held;

@@ -76,7 +76,7 @@ pub fn parse_number(token: &[u8], most: u64) -> Number
 }
 
 // The smaller of two numbers.
-pub fn least(a: usize, b: usize) -> usize
+pub fn smaller(a: usize, b: usize) -> usize
     ensures { λ r. ⌜ r ≡ min a b ⌝ }
 {
     if a < b { a } else { b }
@@ -87,8 +87,9 @@ pub fn append(room: &mut [u8], used: usize, bytes: &[u8]) -> usize
     requires { ⌜ used ≤ length (now room) ⌝ }
     ensures { λ r. ⌜ r ≡ min (length (now (room .entry))) (used + length (now (bytes .entry))) ⌝ }
     ensures { λ r. ⌜ take r (now (room .exit)) ≡ take (length (now (room .entry))) (take used (now (room .entry)) ++ now (bytes .entry)) ⌝ }
+    ensures { λ r. ⌜ drop r (now (room .exit)) ≡ drop r (now (room .entry)) ⌝ }
 {
-    let count = least(room.len() - used, bytes.len());
+    let count = smaller(room.len() - used, bytes.len());
     let mut i = 0;
     while i < count {
         room[used + i] = bytes[i];
@@ -130,12 +131,13 @@ pub fn take_line(input: &[u8], from: usize, line: &mut [u8], held: usize) -> Tak
     ensures { λ r. ⌜ r .from ≡ min (length (now (input .entry))) (from + length (upTo 10 (drop from (now (input .entry)))) + 1) ⌝ }
     ensures { λ r. ⌜ r .held ≤ length (now (line .entry)) ⌝ }
     ensures { λ r. ⌜ take (r .held) (now (line .exit)) ≡ take (length (now (line .entry))) (take held (now (line .entry)) ++ upTo 10 (drop from (now (input .entry)))) ⌝ }
+    ensures { λ r. ⌜ drop (r .held) (now (line .exit)) ≡ drop (r .held) (now (line .entry)) ⌝ }
 {
     let end = end_of(input, from, b'\n');
     let held = append(line, held, &input[from..end]);
     Taken {
         ended: end < input.len(),
         held,
-        from: least(input.len(), end + 1),
+        from: smaller(input.len(), end + 1),
     }
 }

@@ -4,6 +4,7 @@ ghost use mathlib.Core.List.{[], _∷_};
 ghost use Rattle.paper.specs.Refusals.{answer, more, refusal, refused, admission, written, reading, measuredD0, measuredD1};
 ghost use Rattle.told.specs.Telling.{tells};
 use paper::Admission;
+use paper::Count;
 use paper::MeasuredD0;
 use paper::MeasuredD1;
 use paper::Reading;
@@ -13,7 +14,7 @@ use paper::Written;
 
 // The kind (0 an answer, 1 "more than the cap", 2 a refusal), a refusal's number, and the first `count` of a, b and c.
 #[repr(C)]
-pub struct Told {
+pub struct Numbers {
     pub kind: u32,
     pub number: u32,
     pub count: u32,
@@ -22,11 +23,11 @@ pub struct Told {
     pub c: u64,
 }
 
-// A refusal without a place.
-fn none(number: u32) -> Told
+// A refusal with which nothing is given.
+fn bare(number: u32) -> Numbers
     ensures { λ r. ⌜ tells r ≡ refusal number [] ⌝ }
 {
-    Told {
+    Numbers {
         kind: 2,
         number,
         count: 0,
@@ -36,25 +37,39 @@ fn none(number: u32) -> Told
     }
 }
 
-// A refusal with its place.
-fn one(number: u32, a: Word) -> Told
-    ensures { λ r. ⌜ tells r ≡ refusal number (a ∷ []) ⌝ }
+// A refusal with its row or cell.
+fn giving_place(number: u32, place: u32) -> Numbers
+    ensures { λ r. ⌜ tells r ≡ refusal number (place ∷ []) ⌝ }
 {
-    Told {
+    Numbers {
         kind: 2,
         number,
         count: 1,
-        a: a as u64,
+        a: place as u64,
+        b: 0,
+        c: 0,
+    }
+}
+
+// A refusal with the number tried.
+fn giving_count(number: u32, tried: Count) -> Numbers
+    ensures { λ r. ⌜ tells r ≡ refusal number (tried ∷ []) ⌝ }
+{
+    Numbers {
+        kind: 2,
+        number,
+        count: 1,
+        a: tried as u64,
         b: 0,
         c: 0,
     }
 }
 
 // An answer without values.
-fn done() -> Told
+fn done() -> Numbers
     ensures { λ r. ⌜ tells r ≡ answer [] ⌝ }
 {
-    Told {
+    Numbers {
         kind: 0,
         number: 0,
         count: 0,
@@ -64,84 +79,112 @@ fn done() -> Told
     }
 }
 
-// An answer of two values.
-fn two(a: Word, b: Word) -> Told
-    ensures { λ r. ⌜ tells r ≡ answer (a ∷ b ∷ []) ⌝ }
+// A word and its d.
+fn of_word(word: Word, d: Word) -> Numbers
+    ensures { λ r. ⌜ tells r ≡ answer (word ∷ d ∷ []) ⌝ }
 {
-    Told {
+    Numbers {
         kind: 0,
         number: 0,
         count: 2,
-        a: a as u64,
-        b: b as u64,
+        a: word as u64,
+        b: d as u64,
         c: 0,
     }
 }
 
-// An answer of three values.
-fn three(a: Word, b: Word, c: Word) -> Told
-    ensures { λ r. ⌜ tells r ≡ answer (a ∷ b ∷ c ∷ []) ⌝ }
+// A message, what was put right, and the number tried.
+fn of_message(message: Word, z: Word, tried: Count) -> Numbers
+    ensures { λ r. ⌜ tells r ≡ answer (message ∷ z ∷ tried ∷ []) ⌝ }
 {
-    Told {
+    Numbers {
         kind: 0,
         number: 0,
         count: 3,
-        a: a as u64,
-        b: b as u64,
-        c: c as u64,
+        a: message as u64,
+        b: z as u64,
+        c: tried as u64,
     }
 }
 
-// "More than the cap", with one value.
-fn more_one(a: Word) -> Told
-    ensures { λ r. ⌜ tells r ≡ more (a ∷ []) ⌝ }
+// A distance and the number tried.
+fn of_distance(d: u32, tried: Count) -> Numbers
+    ensures { λ r. ⌜ tells r ≡ answer (d ∷ tried ∷ []) ⌝ }
 {
-    Told {
+    Numbers {
+        kind: 0,
+        number: 0,
+        count: 2,
+        a: d as u64,
+        b: tried as u64,
+        c: 0,
+    }
+}
+
+// The same, with the radius to print.
+fn of_plate(d: u32, tried: Count, radius: u32) -> Numbers
+    ensures { λ r. ⌜ tells r ≡ answer (d ∷ tried ∷ radius ∷ []) ⌝ }
+{
+    Numbers {
+        kind: 0,
+        number: 0,
+        count: 3,
+        a: d as u64,
+        b: tried as u64,
+        c: radius as u64,
+    }
+}
+
+// "More than the cap", with the number tried.
+fn more_tried(tried: Count) -> Numbers
+    ensures { λ r. ⌜ tells r ≡ more (tried ∷ []) ⌝ }
+{
+    Numbers {
         kind: 1,
         number: 0,
         count: 1,
-        a: a as u64,
+        a: tried as u64,
         b: 0,
         c: 0,
     }
 }
 
-// "More than the cap", with two values.
-fn more_two(a: Word, b: Word) -> Told
-    ensures { λ r. ⌜ tells r ≡ more (a ∷ b ∷ []) ⌝ }
+// The same, with the radius to print.
+fn more_plate(tried: Count, radius: u32) -> Numbers
+    ensures { λ r. ⌜ tells r ≡ more (tried ∷ radius ∷ []) ⌝ }
 {
-    Told {
+    Numbers {
         kind: 1,
         number: 0,
         count: 2,
-        a: a as u64,
-        b: b as u64,
+        a: tried as u64,
+        b: radius as u64,
         c: 0,
     }
 }
 
 // What a refusal tells: its number, and its place if it has one.
-pub fn of_refusal(why: Refusal) -> Told
+pub fn of_refusal(why: Refusal) -> Numbers
     ensures { λ r. ⌜ tells r ≡ refused why ⌝ }
 {
     match why {
-        Refusal::Shape => none(1),
-        Refusal::Stray { row } => one(2, row),
-        Refusal::OffCode { row } => one(3, row),
-        Refusal::OffMessage { row } => one(4, row),
-        Refusal::DependentG0 { row } => one(5, row),
-        Refusal::DependentH { row } => one(6, row),
-        Refusal::Message => none(7),
-        Refusal::Stuck { cell } => one(8, cell),
-        Refusal::NoWord => none(9),
-        Refusal::ReadWord { cell } => one(10, cell),
-        Refusal::Limit => none(11),
-        Refusal::NoCodeword { tried } => one(12, tried),
+        Refusal::Shape => bare(1),
+        Refusal::Stray { row } => giving_place(2, row),
+        Refusal::OffCode { row } => giving_place(3, row),
+        Refusal::OffMessage { row } => giving_place(4, row),
+        Refusal::DependentG0 { row } => giving_place(5, row),
+        Refusal::DependentH { row } => giving_place(6, row),
+        Refusal::Message => bare(7),
+        Refusal::Stuck { cell } => giving_place(8, cell),
+        Refusal::NoWord => bare(9),
+        Refusal::ReadWord { cell } => giving_place(10, cell),
+        Refusal::Limit => bare(11),
+        Refusal::NoCodeword { tried } => giving_count(12, tried),
     }
 }
 
 // What an admission tells.
-pub fn of_admission(answer: Admission) -> Told
+pub fn of_admission(answer: Admission) -> Numbers
     ensures { λ r. ⌜ tells r ≡ admission answer ⌝ }
 {
     match answer {
@@ -151,43 +194,43 @@ pub fn of_admission(answer: Admission) -> Told
 }
 
 // What a write tells.
-pub fn of_written(answer: Written) -> Told
+pub fn of_written(answer: Written) -> Numbers
     ensures { λ r. ⌜ tells r ≡ written answer ⌝ }
 {
     match answer {
-        Written::Word { word, d } => two(word, d),
+        Written::Word { word, d } => of_word(word, d),
         Written::Refused(why) => of_refusal(why),
     }
 }
 
 // What a read tells.
-pub fn of_reading(answer: Reading) -> Told
+pub fn of_reading(answer: Reading) -> Numbers
     ensures { λ r. ⌜ tells r ≡ reading answer ⌝ }
 {
     match answer {
-        Reading::Message { message, z, tried } => three(message, z, tried),
+        Reading::Message { message, z, tried } => of_message(message, z, tried),
         Reading::Refused(why) => of_refusal(why),
     }
 }
 
 // What a measurement of d0 tells.
-pub fn of_d0(answer: MeasuredD0) -> Told
+pub fn of_d0(answer: MeasuredD0) -> Numbers
     ensures { λ r. ⌜ tells r ≡ measuredD0 answer ⌝ }
 {
     match answer {
-        MeasuredD0::Distance { d, tried } => two(d, tried),
-        MeasuredD0::More { tried } => more_one(tried),
+        MeasuredD0::Distance { d, tried } => of_distance(d, tried),
+        MeasuredD0::More { tried } => more_tried(tried),
         MeasuredD0::Refused(why) => of_refusal(why),
     }
 }
 
 // What a measurement of d1 tells.
-pub fn of_d1(answer: MeasuredD1) -> Told
+pub fn of_d1(answer: MeasuredD1) -> Numbers
     ensures { λ r. ⌜ tells r ≡ measuredD1 answer ⌝ }
 {
     match answer {
-        MeasuredD1::Distance { d, tried, radius } => three(d, tried, radius),
-        MeasuredD1::More { tried, radius } => more_two(tried, radius),
+        MeasuredD1::Distance { d, tried, radius } => of_plate(d, tried, radius),
+        MeasuredD1::More { tried, radius } => more_plate(tried, radius),
         MeasuredD1::Refused(why) => of_refusal(why),
     }
 }

@@ -9,19 +9,19 @@ use Rattle.text.specs.Bytes.{bytes}
 use Rattle.text.specs.Tokens.{cut, same, upTo}
 use Rattle.text.specs.Numerals.{numeral, valued}
 use Rattle.text.specs.Puts.{digitsOf}
-use Rattle.lines.specs.Lines.{asked, asks, spelled, lookup}
+use Rattle.lines.specs.Lines.{asked, comes, spelled, lookup}
 use Rattle.lines.specs.Shapes.{fill}
 use Rattle.answers.specs.Answers.{labelled}
 use Rattle.verbs.specs.Replies.{table, reply}
 
 word : reply (asked table (bytes "write 3 1 2 4 1 3 5 7 1 6 2")) ≡ bytes "word 2 d 1\n"
-unfolding cut asked asks spelled lookup same fill numeral valued judged writes labelled upTo digitsOf ones sum
+unfolding cut asked comes spelled lookup same fill numeral valued judged writes labelled upTo digitsOf ones sum
 word = refl
 
 place : reply (asked table (bytes "write 3 1 2 4 1 3 5 7 1 1 2")) ≡ bytes "refused 8 1\n"
-unfolding cut asked asks spelled lookup same fill numeral valued judged writes labelled upTo digitsOf ones sum
+unfolding cut asked comes spelled lookup same fill numeral valued judged writes labelled upTo digitsOf ones sum
 place = refl
 
 over : reply (asked table (bytes "write 3 1 2 4 1 3 5 7 1 4294967296 0")) ≡ bytes "unknown\n"
-unfolding cut asked asks spelled lookup same fill numeral valued
+unfolding cut asked comes spelled lookup same fill numeral valued
 over = refl

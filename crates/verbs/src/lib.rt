@@ -3,7 +3,7 @@ use answers::say;
 use lines::Line;
 use lines::parse;
 use paper::Word;
-use told::Told;
+use told::Numbers;
 use told::of_admission;
 use told::of_d0;
 use told::of_d1;
@@ -20,13 +20,13 @@ ghost use Rattle.text.specs.Bytes.{bytes};
 ghost use Rattle.text.specs.Tokens.{cut};
 ghost use Rattle.text.specs.Puts.{Put};
 ghost use Rattle.told.specs.Telling.{tells};
-ghost use Rattle.lines.specs.Shapes.{Placed};
-ghost use Rattle.lines.specs.Lines.{asked, meant, used, shapeAt, roomLine};
+ghost use Rattle.lines.specs.Shapes.{Stands};
+ghost use Rattle.lines.specs.Lines.{asked, askedIn, meant, used, shapeAt, roomLine};
 ghost use Rattle.verbs.specs.Replies.{table, sheetIn, arg, replied, roomReply};
 
 // `admit SHEET`.
-fn admit(ns: &[Word]) -> Told
-    requires { ⌜ Placed (bytes "nnnL") 0 (now ns) ⌝ }
+fn admit(ns: &[Word]) -> Numbers
+    requires { ⌜ Stands (bytes "nnnL") 0 (now ns) ⌝ }
     ensures { λ r. ⌜ tells r ≡ admits (sheetIn (now (ns .entry))) ⌝ }
 {
     let at = 4 + ns[3] as usize;
@@ -34,8 +34,8 @@ fn admit(ns: &[Word]) -> Told
 }
 
 // `write SHEET message stuck levels`.
-fn write(ns: &[Word]) -> Told
-    requires { ⌜ Placed (bytes "nnnLwww") 0 (now ns) ⌝ }
+fn write(ns: &[Word]) -> Numbers
+    requires { ⌜ Stands (bytes "nnnLwww") 0 (now ns) ⌝ }
     ensures { λ r. ⌜ tells r ≡ writes (sheetIn (now (ns .entry))) (arg (now (ns .entry)) 0) (arg (now (ns .entry)) 1) (arg (now (ns .entry)) 2) ⌝ }
 {
     let at = 4 + ns[3] as usize;
@@ -51,8 +51,8 @@ fn write(ns: &[Word]) -> Told
 }
 
 // `read SHEET y radius`.
-fn read(ns: &[Word]) -> Told
-    requires { ⌜ Placed (bytes "nnnLwn") 0 (now ns) ⌝ }
+fn read(ns: &[Word]) -> Numbers
+    requires { ⌜ Stands (bytes "nnnLwn") 0 (now ns) ⌝ }
     ensures { λ r. ⌜ tells r ≡ reads (sheetIn (now (ns .entry))) (arg (now (ns .entry)) 0) (arg (now (ns .entry)) 1) ⌝ }
 {
     let at = 4 + ns[3] as usize;
@@ -60,8 +60,8 @@ fn read(ns: &[Word]) -> Told
 }
 
 // `d0 SHEET cap`.
-fn d0(ns: &[Word]) -> Told
-    requires { ⌜ Placed (bytes "nnnLn") 0 (now ns) ⌝ }
+fn d0(ns: &[Word]) -> Numbers
+    requires { ⌜ Stands (bytes "nnnLn") 0 (now ns) ⌝ }
     ensures { λ r. ⌜ tells r ≡ measuresD0 (sheetIn (now (ns .entry))) (arg (now (ns .entry)) 0) ⌝ }
 {
     let at = 4 + ns[3] as usize;
@@ -69,8 +69,8 @@ fn d0(ns: &[Word]) -> Told
 }
 
 // `d1 SHEET cap`.
-fn d1(ns: &[Word]) -> Told
-    requires { ⌜ Placed (bytes "nnnLn") 0 (now ns) ⌝ }
+fn d1(ns: &[Word]) -> Numbers
+    requires { ⌜ Stands (bytes "nnnLn") 0 (now ns) ⌝ }
     ensures { λ r. ⌜ tells r ≡ measuresD1 (sheetIn (now (ns .entry))) (arg (now (ns .entry)) 0) ⌝ }
 {
     let at = 4 + ns[3] as usize;
@@ -79,7 +79,7 @@ fn d1(ns: &[Word]) -> Told
 
 // Puts the text of the answer to a verb's call.
 pub fn reply(verb: usize, ns: &[Word], out: &mut [u8]) -> usize
-    requires { ⌜ Placed (shapeAt (cut 32 table) verb) 0 (now ns) ⌝ }
+    requires { ⌜ Stands (shapeAt (cut 32 table) verb) 0 (now ns) ⌝ }
     requires { ⌜ roomReply (now ns) ≤ length (now out) ⌝ }
     ensures { λ r. ⌜ Put (now (out .entry)) 0 (replied verb (now (ns .entry))) r (now (out .exit)) ⌝ }
     ensures { λ r. ⌜ r < roomReply (now (ns .entry)) ⌝ }
@@ -99,6 +99,7 @@ pub fn ask(line: &[u8], ns: &mut [Word]) -> Line
     requires { ⌜ roomLine ≤ 2 * length (now ns) ⌝ }
     ensures { λ r. ⌜ meant r (now (ns .exit)) ≡ asked table (now (line .entry)) ⌝ }
     ensures { λ r. ⌜ used r ≤ length (now (ns .exit)) ⌝ }
+    ensures { λ _. ⌜ now (ns .exit) ≡ askedIn table (now (line .entry)) (now (ns .entry)) ⌝ }
 {
     parse(
         line,

@@ -1,4 +1,5 @@
--- The product of two words and the products with rows: additive, symmetric, and what a single cell tells. Assumes nothing.
+-- The product of two words and the products with rows: additive, symmetric, and what a single cell tells.
+-- For the code, the message of a word, and both distances. Assumes nothing.
 use mathlib.Core.Path.{_≡_, refl, sym, ap, ap₂, _∙_}
 use mathlib.Core.Logic.{_⊎_, _≢_}
 use mathlib.Core.List.{List, [], _∷_}

@@ -1,4 +1,5 @@
--- The sum of two words: a group, cell by cell and within the same cells; and the weight of a sum. Assumes nothing.
+-- The sum of two words: a group, cell by cell and within the same cells; and the weight of a sum.
+-- For everything that adds words: `simp sums` proves their identities. Assumes nothing.
 use mathlib.Core.Path.{_≡_, refl, sym, ap, ap₂, _∙_, subst}
 use mathlib.Core.Bool.{cond}
 use mathlib.Core.Logic.{_⊎_, inl, inr, _↔_, ⊎-elim}
@@ -127,15 +128,17 @@ and-⊕ m a b =
     both (suc x) (suc y) zero h l m = omega arith
     both (suc x) (suc y) (suc z) h l m = omega arith
 
+-- the same with the mask behind
+pub ⊕-masked : (m a b : ℕ) → bitAnd (a ⊕ b) m ≡ bitAnd a m ⊕ bitAnd b m
+⊕-masked m a b = rw (and-comm (a ⊕ b) m, and-comm a m, and-comm b m) (and-⊕ m a b)
+
 -- a sum has the levels at the cells of a mask exactly if one of its words has there what the other and the levels differ in
 pub on-mask : (a b levels m : ℕ) → bitAnd levels m ≡ levels → (bitAnd (a ⊕ b) m ≡ levels) ↔ (bitAnd b m ≡ bitAnd (a ⊕ levels) m)
-on-mask a b levels m h = (λ e. move (bitAnd a m) _ _ (sym (split a b) ∙ e) ∙ sym target, λ e. split a b ∙ sym (move _ _ _ (sym (e ∙ target))))
+on-mask a b levels m h =
+    (λ e. move (bitAnd a m) _ _ (sym (⊕-masked m a b) ∙ e) ∙ sym target, λ e. ⊕-masked m a b ∙ sym (move _ _ _ (sym (e ∙ target))))
   where
-    split : (x y : ℕ) → bitAnd (x ⊕ y) m ≡ bitAnd x m ⊕ bitAnd y m
-    split x y = rw (and-comm (x ⊕ y) m, and-comm x m, and-comm y m) (and-⊕ m x y)
-
     target : bitAnd (a ⊕ levels) m ≡ bitAnd a m ⊕ levels
-    target = split a levels ∙ ap (λ (x : ℕ). bitAnd a m ⊕ x) h
+    target = ⊕-masked m a levels ∙ ap (λ (x : ℕ). bitAnd a m ⊕ x) h
 
     move : (x y v : ℕ) → x ⊕ y ≡ v → y ≡ x ⊕ v
     move x y v e = sym (⊕-cancel x y) ∙ ap (λ (z : ℕ). x ⊕ z) e

@@ -5,22 +5,26 @@ ghost use Prim.Native.Nat.{_%_, _^_, _≤_, _<_};
 ghost use lib.Dec.{eqb, ltb};
 ghost use lib.ListN.{length};
 ghost use Rattle.paper.specs.First.{first};
-ghost use Rattle.paper.specs.Words.{width, cell, product, products, sum, _⊕_};
-ghost use Rattle.words.specs.Places.{placed};
+ghost use Rattle.paper.specs.Words.{width, cell, weight, product, products, sum, _⊕_};
+ghost use Rattle.words.specs.Places.{asFirst};
 use paper::WIDTH;
+use paper::Word;
 
-// The first number with a property, or that there is none.
+// The word that is 1 at every cell.
+pub const ALL_CELLS: Word = u32::MAX;
+
+// The first row or cell with a property, or that there is none.
 pub enum Place {
     At(u32),
     Nowhere,
 }
 
 // "The product of two words is the parity of the cells that are 1 in both", one cell at a time.
-pub fn product_of(a: u32, b: u32) -> u32
+pub fn product_of(a: Word, b: Word) -> Word
     ensures { λ r. ⌜ r ≡ product a b ⌝ }
 {
     let mut both = a & b;
-    let mut parity: u32 = 0;
+    let mut parity: Word = 0;
     while 0 < both {
         parity = (parity + both % 2) % 2;
         both = both / 2;
@@ -28,12 +32,19 @@ pub fn product_of(a: u32, b: u32) -> u32
     parity
 }
 
+// "weight (number of ones)"
+pub fn weight_of(x: Word) -> u32
+    ensures { λ r. ⌜ r ≡ weight x ⌝ }
+{
+    u32::count_ones(x)
+}
+
 // The products of x with each row, bit i for row i: of M's rows, the message of x.
-pub fn products_of(rows: &[u32], x: u32) -> u32
+pub fn products_of(rows: &[Word], x: Word) -> Word
     requires { ⌜ length (now rows) ≤ width ⌝ }
     ensures { λ r. ⌜ r ≡ products (now (rows .entry)) x ⌝ }
 {
-    let mut word: u32 = 0;
+    let mut word: Word = 0;
     let mut i = rows.len();
     while 0 < i {
         i -= 1;
@@ -43,10 +54,10 @@ pub fn products_of(rows: &[u32], x: u32) -> u32
 }
 
 // The sum of the rows that d picks, bit j for row j.
-pub fn sum_of(rows: &[u32], d: u32) -> u32
+pub fn sum_of(rows: &[Word], d: Word) -> Word
     ensures { λ r. ⌜ r ≡ sum (now (rows .entry)) d ⌝ }
 {
-    let mut word: u32 = 0;
+    let mut word: Word = 0;
     let mut left = d;
     let mut i = 0;
     while i < rows.len() {
@@ -60,8 +71,8 @@ pub fn sum_of(rows: &[u32], d: u32) -> u32
 }
 
 // The lowest cell of a word that is 1, or that all are 0.
-pub fn lowest_of(x: u32) -> Place
-    ensures { λ r. ⌜ placed r ≡ first width (λ i. eqb (cell x i) 1) ⌝ }
+pub fn lowest_of(x: Word) -> Place
+    ensures { λ r. ⌜ asFirst r ≡ first width (λ i. eqb (cell x i) 1) ⌝ }
 {
     if x == 0 {
         Place::Nowhere
@@ -71,7 +82,7 @@ pub fn lowest_of(x: u32) -> Place
 }
 
 // Whether x is a word over n cells. The shift by n - 1 is below the width also where n is the width.
-pub fn is_low(n: u32, x: u32) -> bool
+pub fn is_low(n: u32, x: Word) -> bool
     requires { ⌜ (1 ≤ n) × (n ≤ width) ⌝ }
     ensures { λ r. ⌜ r ≡ ltb x (2 ^ n) ⌝ }
 {
@@ -79,7 +90,7 @@ pub fn is_low(n: u32, x: u32) -> bool
 }
 
 // The word that is 1 at cell c alone.
-pub fn cell_of(c: u32) -> u32
+pub fn cell_of(c: u32) -> Word
     requires { ⌜ c < width ⌝ }
     ensures { λ r. ⌜ r ≡ 2 ^ c ⌝ }
 {
@@ -87,7 +98,7 @@ pub fn cell_of(c: u32) -> u32
 }
 
 // The cells of x at n or above.
-pub fn strays_of(n: u32, x: u32) -> u32
+pub fn strays_of(n: u32, x: Word) -> Word
     requires { ⌜ n ≤ width ⌝ }
     ensures { λ r. ⌜ r ≡ x ⊕ x % 2 ^ n ⌝ }
 {

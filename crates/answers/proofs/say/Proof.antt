@@ -21,9 +21,9 @@ returns c =
     let c13 = c9 .before .before .before .before in
     let a = c13 .args in
     let t = a .t in (
-      put-text (ap (said (a .labels .now)) (values-are (t .number) (t .a) (t .b) (t .c) (t .count) (c9 .least .result) (c9 .least .ensures))
+      put-text (ap (said (a .labels .now)) (values-are (t .number) (t .a) (t .b) (t .c) (t .count) (c9 .smaller .result) (c9 .smaller .ensures))
           ∙ ap (λ (k : ℕ). spoken (a .labels .now) (toldBy k (t .number) (valuesOf t))) (let e : 0 ≡ t .kind = omega arith in e)) (c .before .before .say-labels .ensures .0),
-      omega (arith, c .before .before .say-labels .ensures .1, length-take (1 + c9 .least .result - 1) (t .a ∷ t .b ∷ t .c ∷ [])),
+      omega (arith, c .before .before .say-labels .ensures .1, length-take (1 + c9 .smaller .result - 1) (t .a ∷ t .b ∷ t .c ∷ [])),
     )
 
 returns-2 : tie.Need-returns-2
@@ -32,9 +32,9 @@ returns-2 c =
     let c16 = c12 .before .before .before .before in
     let a = c16 .args in
     let t = a .t in (
-      put-text (ap (said (bytes "more tried | radius ")) (values-are (t .number) (t .a) (t .b) (t .c) (t .count) (c12 .least .result) (c12 .least .ensures))
+      put-text (ap (said (bytes "more tried | radius ")) (values-are (t .number) (t .a) (t .b) (t .c) (t .count) (c12 .smaller .result) (c12 .smaller .ensures))
           ∙ ap (λ (k : ℕ). spoken (a .labels .now) (toldBy k (t .number) (valuesOf t))) (let e : 1 ≡ t .kind = omega arith in e)) (c .before .before .say-labels2 .ensures .0),
-      omega (arith, c .before .before .say-labels2 .ensures .1, length-take (1 + c12 .least .result - 1) (t .a ∷ t .b ∷ t .c ∷ [])),
+      omega (arith, c .before .before .say-labels2 .ensures .1, length-take (1 + c12 .smaller .result - 1) (t .a ∷ t .b ∷ t .c ∷ [])),
     )
 
 slice-aggregate-say-labels-3 : tie.Need-slice-aggregate-say-labels-3
@@ -49,9 +49,9 @@ returns-3 c =
     let c15 = c11 .before .before .before .before in
     let a = c15 .args in
     let t = a .t in (
-      put-text (ap (said (bytes "refused | ")) (refused-are (t .number) (t .a) (t .b) (t .c) (t .count) (c11 .least .result) (c11 .least .ensures))
+      put-text (ap (said (bytes "refused | ")) (refused-are (t .number) (t .a) (t .b) (t .c) (t .count) (c11 .smaller .result) (c11 .smaller .ensures))
           ∙ sym (ap (spoken (a .labels .now)) (told-refused (t .kind) (t .number) (valuesOf t) (omega arith)))) (c .before .before .say-labels3 .ensures .0),
-      omega (arith, c .before .before .say-labels3 .ensures .1, length-take (1 + c11 .least .result) (t .number ∷ t .a ∷ t .b ∷ t .c ∷ [])),
+      omega (arith, c .before .before .say-labels3 .ensures .1, length-take (1 + c11 .smaller .result) (t .number ∷ t .a ∷ t .b ∷ t .c ∷ [])),
     )
 
 pub say-spec : {M : Type 1} → statement M

@@ -8,7 +8,7 @@ use native.Mathlib.Omega.{arith}
 use lib.ListN.{length, take, drop, getD, length-take, length-append}
 use Rattle.text.specs.Puts.{decimal}
 use Rattle.text.proofs.Tokens.{end-within}
-use Rattle.text.proofs.Puts.{decimal-le, put-join, put-step, put-whole}
+use Rattle.text.proofs.Puts.{decimal-le, kept-behind, put-join, put-step, put-whole}
 use Rattle.answers.specs.Answers.{labelled}
 use Rattle.answers.proofs.Answers.{label-turn, label-end}
 use Rattle.answers.proofs.say_values.Statement.{statement}
@@ -17,7 +17,7 @@ use Rattle.answers.proofs.say_values.Tie as tie
 abbrev Inv-loop : tie.InvT-loop
 Inv-loop out₀ at labels values to₀ from₀ i₀ out to from i =
     (from ≤ length labels) × (i ≤ length values) × (length out ≡ length out₀) × (to ≤ at + from + 20 * i)
-    × (take at out₀ ++ labelled labels values ≡ take to out ++ labelled (drop from labels) (drop i values))
+    × (take at out₀ ++ labelled labels values ≡ take to out ++ labelled (drop from labels) (drop i values)) × (drop to out ≡ drop to out₀)
 
 abbrev μ-loop : tie.MeasureT-loop
 μ-loop out₀ at labels values to₀ from₀ i₀ out to from i = length values - i
@@ -44,8 +44,8 @@ put-number-requires c κs =
     let e = c7 .end-of .result in
     omega (arith, end-in (c7), c4 .put .ensures .ends, length-take (e - l .from) (drop (l .from) (c13 .args .labels .now)), l .inv)
 
-add-least : tie.Need-add-least Inv-loop μ-loop
-add-least c = omega (arith, end-in (c .before .before .before .before .before .before .before .before .before .before))
+add-smaller : tie.Need-add-smaller Inv-loop μ-loop
+add-smaller c = omega (arith, end-in (c .before .before .before .before .before .before .before .before .before .before))
 
 loop-again : tie.Need-loop-again Inv-loop μ-loop
 loop-again c =
@@ -68,11 +68,12 @@ loop-again c =
         both .ends,
         length-append (take (e .result - l .from) (drop (l .from) (a .labels .now))) (decimal (getD (a .values .now) (l .i) 0)),
         length-take (e .result - l .from) (drop (l .from) (a .labels .now)),
-        c .least .ensures,
+        c .smaller .ensures,
         l .inv,
       ),
-      put-step (labelled (drop (c .least .result) (a .labels .now)) (drop (l .i + 1) (a .values .now))) (l .inv .4)
-          (label-turn (a .labels .now) (a .values .now) (l .from) (e .result) (l .i) (c .least .result) (e .ensures) (omega arith) (c .least .ensures)) both,
+      put-step (labelled (drop (c .smaller .result) (a .labels .now)) (drop (l .i + 1) (a .values .now))) (l .inv .4)
+          (label-turn (a .labels .now) (a .values .now) (l .from) (e .result) (l .i) (c .smaller .result) (e .ensures) (omega arith) (c .smaller .ensures)) both,
+      both .kept ∙ kept-behind (a .out .now) (l .out) (l .to) _ _ (both .ends) (l .inv .5),
     )
 
 returns : tie.Need-returns Inv-loop μ-loop
@@ -81,13 +82,13 @@ returns c =
     let l = c .before .loop in
     let a = c5 .args in (
       put-whole (omega arith) (omega arith)
-          (l .inv .4 ∙ ap (λ (t : List ℕ). take (l .to) (l .out) ++ t) (label-end (drop (l .from) (a .labels .now)) (a .values .now) (l .i) (omega arith))),
+          (l .inv .4 ∙ ap (λ (t : List ℕ). take (l .to) (l .out) ++ t) (label-end (drop (l .from) (a .labels .now)) (a .values .now) (l .i) (omega arith))) (l .inv .5),
       omega arith,
     )
 
 pub say-values-spec : {M : Type 1} → statement M
 say-values-spec =
     tie.close
-    (tie.spec Inv-loop μ-loop (λ c. (omega arith, omega arith, refl, omega arith, refl)) (λ c κs. search needs) (λ c. omega arith) (λ c. omega arith)
-    part-put-end put-requires (λ c. omega arith) (λ c. omega arith) put-number-requires add-least (λ c κs. search needs) (λ c. omega arith)
+    (tie.spec Inv-loop μ-loop (λ c. (omega arith, omega arith, refl, omega arith, refl, refl)) (λ c κs. search needs) (λ c. omega arith) (λ c. omega arith)
+    part-put-end put-requires (λ c. omega arith) (λ c. omega arith) put-number-requires add-smaller (λ c κs. search needs) (λ c. omega arith)
     (λ c. omega arith) loop-again (λ c. omega arith) returns)

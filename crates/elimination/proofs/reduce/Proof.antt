@@ -6,7 +6,7 @@ use borrow.Author.Needs.{needs}
 use native.Mathlib.Nat.{le-antisymm}
 use native.Mathlib.Omega.{arith}
 use Rattle.paper.specs.Words.{_⊕_}
-use Rattle.elimination.specs.Kept.{reduced, chosen, Reduces}
+use Rattle.elimination.specs.Kept.{reduced, gathered, Reduces}
 use Rattle.elimination.proofs.Reducing.{reduces-taken, reduces-passed}
 use Rattle.elimination.proofs.reduce.Statement.{statement}
 use Rattle.elimination.proofs.reduce.Tie as tie
@@ -18,7 +18,7 @@ abbrev μ-loop : tie.MeasureT-loop
 μ-loop words choices count x rest₀ choice₀ i₀ rest choice i = count - i
 
 loop-holds : tie.Need-loop-holds Inv-loop μ-loop
-unfolding reduced chosen
+unfolding reduced gathered
 loop-holds c = (omega arith, record { left = refl; picked = refl })
 
 loop-again : tie.Need-loop-again Inv-loop μ-loop

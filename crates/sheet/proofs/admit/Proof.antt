@@ -2,7 +2,6 @@
 use mathlib.Core.Path.{sym, _∙_}
 use borrow.Author.Needs.{needs}
 use Rattle.paper.specs.Sheet.{judged}
-use Rattle.sheet.specs.Steps.{sums, rules}
 use Rattle.sheet.proofs.Verdicts.{shaped-facts}
 use Rattle.sheet.proofs.admit.Statement.{statement}
 use Rattle.sheet.proofs.admit.Tie as tie
@@ -11,7 +10,7 @@ judge-rows-requires : tie.Need-judge-rows-requires
 judge-rows-requires c κs = shaped-facts _ (sym (c .before .is-shaped .ensures) ∙ c .if1 .taken)
 
 returns : tie.Need-returns
-unfolding judged rules sums
+unfolding judged
 returns c = rw (sym (c .before .before .is-shaped .ensures) ∙ c .before .if1 .taken) (c .judge-rows .ensures)
 
 returns-2 : tie.Need-returns-2

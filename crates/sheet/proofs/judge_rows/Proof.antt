@@ -1,15 +1,15 @@
 -- `judge_rows` meets its contract: what each rule finds is what the definition finds, and the first to find decides.
 use mathlib.Core.Path.{_≡_, sym, ap, _∙_}
 use mathlib.Core.List.{List}
-use Prim.Native.Nat.{ℕ, _+_, _-_}
+use Prim.Native.Nat.{ℕ, _+_}
 use borrow.Author.Needs.{needs}
 use native.Mathlib.Omega.{arith}
 use lib.ListN.{length}
 use Rattle.paper.specs.First.{First, first}
-use Rattle.paper.specs.Sheet.{sheet, M, off, offCode, offMessage}
-use Rattle.words.specs.Places.{placed}
-use Rattle.sheet.specs.Steps.{rules}
-use Rattle.sheet.proofs.Stops.{stop-first, pass, found-in}
+use Rattle.paper.specs.Sheet.{sheet, M, off, offCode, offMessage, judgedRows}
+use Rattle.words.specs.Places.{asFirst}
+use Rattle.rules.proofs.Rules.{stop-first, pass}
+use Rattle.sheet.proofs.Tests.{found-in}
 use Rattle.sheet.proofs.Verdicts.{part-length}
 use Rattle.sheet.proofs.judge_rows.Statement.{statement}
 use Rattle.sheet.proofs.judge_rows.Tie as tie
@@ -26,29 +26,29 @@ off-in own gs others {rows} {checks} {count} e h l q =
     found-in (λ (xs : List ℕ). off own xs others) gs e (sym (ap length e) ∙ l) q ∙ ap (λ (ys : List ℕ). first count (off own rows ys)) h
 
 found-code : (c : tie.After-find-off) → let a = c .before .before .before .before .before .before .before .args in
-    placed (c .find-off .result) ≡ first (a .k + a .l) (offCode (sheet (a .n) (a .k) (a .l) (a .rows .now)))
+    asFirst (c .find-off .result) ≡ first (a .k + a .l) (offCode (sheet (a .n) (a .k) (a .l) (a .rows .now)))
 found-code c =
     off-in 0 _ _ (c .before .before .part .ensures) (c .before .part2 .ensures) (length-G (c .before .before)) (c .find-off .ensures)
 
 found-message : (c : tie.After-find-off2) → let a = c .before .before .before .before .before .before .before .before .before .before .before .args in
-    placed (c .find-off2 .result) ≡ first (a .k + a .l) (offMessage (sheet (a .n) (a .k) (a .l) (a .rows .now)))
+    asFirst (c .find-off2 .result) ≡ first (a .k + a .l) (offMessage (sheet (a .n) (a .k) (a .l) (a .rows .now)))
 found-message c =
     let p = c .before .before .before .before .before .before in
     off-in 1 _ _ (p .part .ensures) (c .before .part3 .ensures) (length-G p) (c .find-off2 .ensures)
 
 returns : tie.Need-returns
-unfolding rules
+unfolding judgedRows
 returns c = stop-first 2 _ (c .before .before .before .find-stray .ensures) (c .before .row .given .1)
 
 returns-2 : tie.Need-returns-2
-unfolding rules
+unfolding judgedRows
 returns-2 c =
     let d = c .before .before .before in
     let t = d .before .before .before in
     pass 2 _ (t .before .before .find-stray .ensures) 0 (t .enum-told .given .1) (stop-first 3 _ (found-code d) (c .before .row2 .given .1))
 
 returns-3 : tie.Need-returns-3
-unfolding rules
+unfolding judgedRows
 returns-3 c =
     let m = c .before .before .before in
     let d = m .before .before .before .before in
@@ -57,7 +57,7 @@ returns-3 c =
     (pass 3 _ (found-code d) 0 (m .before .before .enum-told2 .given .1) (stop-first 4 _ (found-message m) (c .before .row3 .given .1)))
 
 returns-4 : tie.Need-returns-4
-unfolding rules
+unfolding judgedRows
 returns-4 c =
     let m = c .before .before .before in
     let d = m .before .before .before .before in

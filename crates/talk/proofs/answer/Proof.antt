@@ -10,7 +10,7 @@ use Rattle.text.proofs.Puts.{put-text, put-nothing, put-join}
 use Rattle.lines.specs.declared.call.Line.{Line}
 use Rattle.lines.specs.declared.call.Line.the-variants as Line
 use Rattle.lines.specs.Lines.{asked, meant, used}
-use Rattle.lines.proofs.Lines.{asked-placed}
+use Rattle.lines.proofs.Lines.{asked-stands}
 use Rattle.verbs.specs.Replies.{table, reply}
 use Rattle.talk.proofs.answer.Statement.{statement}
 use Rattle.talk.proofs.answer.Tie as tie
@@ -25,21 +25,21 @@ returns : tie.Need-returns
 returns c =
     let c4 = c .before .before .before .before in
     let c9 = c4 .before .before .before .before .before in
-    (put-text (ap reply (means (c4) Line.Silent (c .enum-told .given .1))) (put-nothing (c9 .args .out .now) 0), omega arith)
+    (put-text (ap reply (means (c4) Line.Silent (c .enum-told .given .1))) (put-nothing (c9 .args .out .now) 0), (omega arith, c4 .ask .ensures .1 .1))
 
 returns-2 : tie.Need-returns-2
 returns-2 c =
     let c5 = c .before .before .before .before .before in
     let c9 = c5 .before .before .before .before in (
       put-text (ap reply (means (c9) Line.Unknown (c5 .enum-told2 .given .1))) (c .before .before .put .ensures),
-      omega (arith, c .before .before .put .ensures .ends),
+      (omega (arith, c .before .before .put .ensures .ends), c9 .ask .ensures .1 .1),
     )
 
 -- the numbers of the call lie within the room
 count-in : (c : tie.After-known-told) → c .before .verb .given .0 .1 .0 ≤ length (c .before .before .before .before .before .ask .last .1 .0)
 count-in c =
     let c5 = c .before .before .before .before .before in
-    subst (λ (r : Line). used r ≤ length (c5 .ask .last .1 .0)) (c .before .verb .given .1) (c5 .ask .ensures .1)
+    subst (λ (r : Line). used r ≤ length (c5 .ask .last .1 .0)) (c .before .verb .given .1) (c5 .ask .ensures .1 .0)
 
 slice-reshare-prefix-reply : tie.Need-slice-reshare-prefix-reply
 slice-reshare-prefix-reply c = count-in c
@@ -54,7 +54,7 @@ reply-requires c κs =
     let c12 = c7 .before .before .before .before .before in
     let g = c3 .verb .given in
     let ns = c7 .ask .last .1 .0 in (
-      asked-placed table (c12 .args .line .now) (g .0 .0) (take (g .0 .1 .0) ns) (sym (means (c7) (Line.Call (g .0 .0) (g .0 .1 .0)) (g .1))),
+      asked-stands table (c12 .args .line .now) (g .0 .0) (take (g .0 .1 .0) ns) (sym (means (c7) (Line.Call (g .0 .0) (g .0 .1 .0)) (g .1))),
       omega (arith, length-take (g .0 .1 .0) ns, c7 .ask .kept, c12 .pre),
     )
 
@@ -76,7 +76,7 @@ returns-3 c =
     let g = c11 .verb .given in
     let ns = c15 .ask .last .1 .0 in (
       put-text (ap reply (means (c15) (Line.Call (g .0 .0) (g .0 .1 .0)) (g .1))) (put-join (c7 .reply .ensures .0) (c .before .before .put2 .ensures)),
-      omega (arith, c7 .reply .ensures .1, c .before .before .put2 .ensures .ends, length-take (g .0 .1 .0) ns, c15 .ask .kept, c20 .pre),
+      (omega (arith, c7 .reply .ensures .1, c .before .before .put2 .ensures .ends, length-take (g .0 .1 .0) ns, c15 .ask .kept, c20 .pre), c15 .ask .ensures .1 .1),
     )
 
 pub answer-spec : {M : Type 1} → statement M

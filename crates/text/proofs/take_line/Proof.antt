@@ -20,8 +20,8 @@ end-in c =
 part-append-end : tie.Need-part-append-end
 part-append-end c = end-in (c .before)
 
-add-least : tie.Need-add-least
-add-least c = omega (arith, end-in (c .before .before .before .before .before))
+add-smaller : tie.Need-add-smaller
+add-smaller c = omega (arith, end-in (c .before .before .before .before .before))
 
 returns : tie.Need-returns
 returns c =
@@ -33,10 +33,13 @@ returns c =
     let input = a .input .now in (
       ap (λ (k : ℕ). ltb k (length input)) (e .ensures),
       (
-        c .least .ensures ∙ ap (λ (k : ℕ). min (length input) (k + 1)) (e .ensures),
+        c .smaller .ensures ∙ ap (λ (k : ℕ). min (length input) (k + 1)) (e .ensures),
         (
           omega arith,
-          c3 .append .ensures .1 ∙ ap (λ (l : List ℕ). take (length (a .line .now)) (take (a .held) (a .line .now) ++ l)) (token-upTo 10 input (a .from) (e .result) (e .ensures)),
+          (
+            c3 .append .ensures .1 .0 ∙ ap (λ (l : List ℕ). take (length (a .line .now)) (take (a .held) (a .line .now) ++ l)) (token-upTo 10 input (a .from) (e .result) (e .ensures)),
+            c3 .append .ensures .1 .1,
+          ),
         ),
       ),
     )
@@ -44,5 +47,5 @@ returns c =
 pub take-line-spec : {M : Type 1} → statement M
 take-line-spec =
     tie.close
-    (tie.spec (λ c κs. search needs) (λ c. search needs) (λ c. search needs) part-append-end (λ c κs. search needs) add-least (λ c κs. search needs)
+    (tie.spec (λ c κs. search needs) (λ c. search needs) (λ c. search needs) part-append-end (λ c κs. search needs) add-smaller (λ c κs. search needs)
     (λ c. search needs) returns)

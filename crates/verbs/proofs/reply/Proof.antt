@@ -9,7 +9,7 @@ use lib.ListN.{List·getD-eq-default}
 use Rattle.text.specs.Bytes.{bytes}
 use Rattle.text.specs.Tokens.{cut}
 use Rattle.text.proofs.Puts.{put-text, put-nothing}
-use Rattle.lines.specs.Shapes.{Placed}
+use Rattle.lines.specs.Shapes.{Stands}
 use Rattle.lines.specs.Lines.{shapeAt}
 use Rattle.answers.specs.Answers.{spoken}
 use Rattle.verbs.specs.Replies.{table, replied, verbs}
@@ -17,8 +17,8 @@ use Rattle.verbs.proofs.reply.Statement.{statement}
 use Rattle.verbs.proofs.reply.Tie as tie
 
 -- the numbers stand where the verb's shape has them
-placed : (c : tie.Start) (v : ℕ) → c .args .verb ≡ v → Placed (shapeAt (cut 32 table) v) 0 (c .args .ns .now)
-placed c v e = subst (λ (w : ℕ). Placed (shapeAt (cut 32 table) w) 0 (c .args .ns .now)) e (c .pre .0)
+placed : (c : tie.Start) (v : ℕ) → c .args .verb ≡ v → Stands (shapeAt (cut 32 table) v) 0 (c .args .ns .now)
+placed c v e = subst (λ (w : ℕ). Stands (shapeAt (cut 32 table) w) 0 (c .args .ns .now)) e (c .pre .0)
 
 -- the text of verb v
 is : (c : tie.Start) (v : ℕ) → c .args .verb ≡ v → replied v (c .args .ns .now) ≡ replied (c .args .verb) (c .args .ns .now)

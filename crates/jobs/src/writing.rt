@@ -1,0 +1,64 @@
+// Writing on an admitted sheet.
+ghost use mathlib.Core.Path.{_≡_};
+ghost use Rattle.paper.specs.Refusals.{written};
+ghost use Rattle.paper.specs.Sheet.{sheet};
+ghost use Rattle.sheet.specs.Sound.{Sound};
+ghost use Rattle.paper.specs.Writing.{fitting, chosen, writesAdmitted};
+ghost use lib.Bits.{bitAnd};
+use crate::judging::find_misplaced;
+use elimination::Solution;
+use elimination::solve;
+use paper::Refusal;
+use paper::Word;
+use paper::Written;
+use sheet::part;
+use words::Place;
+use words::is_low;
+use words::sum_of;
+
+// "The answer is the fitting word of message w whose d .. is the smallest number, and that d"; 9 if there is none.
+// d fits if dG0 has at the stuck cells what wG1 and the levels differ in.
+fn choose_word(
+    n: u32,
+    k: u32,
+    l: u32,
+    rows: &[Word],
+    message: Word,
+    stuck: Word,
+    levels: Word,
+) -> Written
+    requires { ⌜ Sound (sheet n k l (now rows)) × (bitAnd levels stuck ≡ levels) ⌝ }
+    ensures { λ r. ⌜ written r ≡ chosen (sheet n k l (now (rows .entry))) message (fitting (sheet n k l (now (rows .entry))) message stuck levels) ⌝ }
+{
+    let base = sum_of(part(rows, 0, k), message);
+    let g0 = part(rows, k, l);
+    match solve(g0, stuck, base ^ levels) {
+        Solution::Choice(d) => Written::Word {
+            word: base ^ sum_of(g0, d),
+            d,
+        },
+        Solution::None => Written::Refused(Refusal::NoWord),
+    }
+}
+
+// 7, then 8, then the word.
+pub fn write(
+    n: u32,
+    k: u32,
+    l: u32,
+    rows: &[Word],
+    message: Word,
+    stuck: Word,
+    levels: Word,
+) -> Written
+    requires { ⌜ Sound (sheet n k l (now rows)) ⌝ }
+    ensures { λ r. ⌜ written r ≡ writesAdmitted (sheet n k l (now (rows .entry))) message stuck levels ⌝ }
+{
+    if !is_low(k, message) {
+        return Written::Refused(Refusal::Message);
+    }
+    if let Place::At(cell) = find_misplaced(n, stuck, levels) {
+        return Written::Refused(Refusal::Stuck { cell });
+    }
+    choose_word(n, k, l, rows, message, stuck, levels)
+}

@@ -1,0 +1,5 @@
+-- The laws of chains of refusals: every call's order goes by them.
+pub mod Rules
+pub mod Chains
+pub mod Stages
+pub mod Reasons

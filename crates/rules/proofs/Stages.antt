@@ -1,0 +1,40 @@
+-- A chain of rules as one: it refuses whatever comes next, or passes to it. So a refusal by rules that several calls share is told alike by each.
+-- For the sheet's six rules, which every call begins with. Assumes nothing.
+use mathlib.Core.Path.{_≡_, refl, sym, _∙_}
+use mathlib.Core.Bool.{Bool, true, false}
+use mathlib.Core.List.{List, [], _∷_}
+use Prim.Native.Nat.{ℕ, _+_}
+use native.Mathlib.Omega.{arith}
+use Rattle.paper.specs.First.{First, nowhere, at}
+use Rattle.paper.specs.Refusals.{Told, answer, refusal, unless, unlessAt}
+
+-- rules that refuse whatever comes next, or pass to it
+pub data Stage (f : Told → Told) : Type 0 where
+  passes : ((next : Told) → f next ≡ next) → Stage f
+  refuses : (number : ℕ) (given : List ℕ) → ((next : Told) → f next ≡ refusal number given) → Stage f
+
+pub unless-stage : (test : Bool) (number : ℕ) → Stage (unless test number)
+unless-stage true number = passes (λ next. refl)
+unless-stage false number = refuses number [] (λ next. refl)
+
+pub unlessAt-stage : (place : First) (number base : ℕ) → Stage (unlessAt place number base)
+unlessAt-stage nowhere number base = passes (λ next. refl)
+unlessAt-stage (at i) number base = refuses number ((base + i) ∷ []) (λ next. refl)
+
+-- two chains, one after the other
+pub then : {f g : Told → Told} → Stage f → Stage g → Stage (λ next. f (g next))
+then {f} {g} (passes p) (passes q) = passes (λ next. p (g next) ∙ q next)
+then {f} {g} (passes p) (refuses number given q) = refuses number given (λ next. p (g next) ∙ q next)
+then {f} {g} (refuses number given p) q = refuses number given (λ next. p (g next))
+
+-- what is refused where an answer comes next is refused whatever comes next
+pub refused-alike : {f : Told → Told} → Stage f → {number : ℕ} {given : List ℕ} → f (answer []) ≡ refusal number given
+    → (next : Told) → f next ≡ refusal number given
+refused-alike (passes p) e next = let q = p (answer []) in let z : _≡_ {A = ℕ} 0 1 = cc in absurd (omega arith)
+refused-alike (refuses m g p) e next = p next ∙ sym (p (answer [])) ∙ e
+
+-- and what is refused, but not by what comes next, is refused where an answer comes next
+pub alike-refused : {f : Told → Told} → Stage f → {number : ℕ} {given : List ℕ} (next : Told) → (next ≡ refusal number given → ⊥)
+    → f next ≡ refusal number given → f (answer []) ≡ refusal number given
+alike-refused (passes p) next other e = absurd (other (sym (p next) ∙ e))
+alike-refused (refuses m g p) next other e = p (answer []) ∙ sym (p next) ∙ e

@@ -1,2 +1,0 @@
--- The calls' answers on an admitted sheet.
-pub mod Steps

@@ -1,0 +1,166 @@
+//! Tests of whole lines: the bench cases of document 01 as one table, and lines that
+//! are no calls.
+
+use super::*;
+
+const KITCHEN: &str = "7 3 1 10 49 82 100 127 27 45 78 9 10 12";
+const ATTIC: &str = "3 1 2 4 1 3 5 7";
+
+/// Verb, sheet, arguments and answer of every bench case of document 01; the last five
+/// are of the document's small program, the order of refusals and a sheet of one cell.
+const BENCH: [(&str, &str, &str, &str); 34] = [
+    ("admit", KITCHEN, "", "admitted"),
+    ("admit", ATTIC, "", "admitted"),
+    ("write", KITCHEN, " 5 0 0", "word 85 d 0"),
+    ("write", KITCHEN, " 5 1 0", "word 42 d 1"),
+    ("write", KITCHEN, " 5 3 1", "word 85 d 0"),
+    ("write", KITCHEN, " 5 3 0", "refused 9"),
+    ("d0", KITCHEN, " 8", "distance 2 tried 8"),
+    ("d0", KITCHEN, " 1", "more tried 7"),
+    ("d1", KITCHEN, " 8", "distance 3 tried 29 radius 1"),
+    ("d1", KITCHEN, " 2", "more tried 28 radius 1"),
+    ("read", KITCHEN, " 21 1", "message 5 z 64 tried 8"),
+    ("read", KITCHEN, " 21 0", "refused 12 1"),
+    ("read", KITCHEN, " 86 1", "message 2 z 4 tried 4"),
+    ("write", ATTIC, " 1 1 0", "word 2 d 1"),
+    ("write", ATTIC, " 1 3 0", "word 4 d 2"),
+    ("write", ATTIC, " 1 7 0", "refused 9"),
+    ("write", ATTIC, " 0 7 0", "word 0 d 0"),
+    ("d0", ATTIC, " 8", "distance 3 tried 7"),
+    ("d1", ATTIC, " 8", "distance 1 tried 1 radius 0"),
+    ("write", KITCHEN, " 7 0 0", "word 7 d 0"),
+    ("write", KITCHEN, " 8 0 0", "refused 7"),
+    ("read", KITCHEN, " 127 0", "message 0 z 0 tried 1"),
+    ("read", KITCHEN, " 128 0", "refused 10 7"),
+    ("read", KITCHEN, " 21 4", "message 5 z 64 tried 8"),
+    ("read", KITCHEN, " 21 5", "refused 11"),
+    (
+        "admit",
+        "7 3 1 10 49 82 100 126 27 45 78 9 10 12",
+        "",
+        "refused 3 3",
+    ),
+    (
+        "admit",
+        "7 3 1 10 49 82 100 0 27 45 78 9 10 12",
+        "",
+        "refused 5 3",
+    ),
+    (
+        "admit",
+        "7 3 1 10 49 82 100 127 27 45 78 1 10 12",
+        "",
+        "refused 4 3",
+    ),
+    (
+        "admit",
+        "7 3 1 10 49 82 100 127 27 45 54 9 10 12",
+        "",
+        "refused 6 6",
+    ),
+    ("read", KITCHEN, " 42 1", "message 5 z 0 tried 1"),
+    ("write", KITCHEN, " 5 128 1", "refused 8 0"),
+    ("write", KITCHEN, " 8 128 1", "refused 7"),
+    ("read", "1 1 0 2 1 1", " 1 4", "message 1 z 0 tried 1"),
+    ("d0", "1 1 0 2 1 1", " 0", "refused 11"),
+];
+
+/// The answer to a line that is given as text.
+fn answered(line: &str) -> Option<String> {
+    answer_line(line.as_bytes())
+}
+
+/// Every bench case is answered as document 01 says.
+#[test]
+fn bench_cases() {
+    for (verb, sheet, arguments, wanted) in BENCH {
+        let line = format!("{verb} {sheet}{arguments}");
+        assert_eq!(answered(&line).as_deref(), Some(wanted), "{line}");
+    }
+}
+
+/// Lines that are no calls are answered `unknown`.
+#[test]
+fn lines_that_are_no_calls() {
+    let lines = [
+        " ",
+        "admit",
+        "admit ",
+        " admit 3 1 2 4 1 3 5 7",
+        "admit 3 1 2 4 1 3 5 7 ",
+        "admit  3 1 2 4 1 3 5 7",
+        "admit 3 1 2 4 1 3 5 7\r",
+        "\r",
+        "\radmit 3 1 2 4 1 3 5 7",
+        "admit\r 3 1 2 4 1 3 5 7",
+        "admit 3 1 2 4 1 3 5",
+        "admit 3 1 2 4 1 3 5 7 0",
+        "admit 3 1 2 4294967295 1 3 5 7",
+        "admit 3 1 2 4 1 3 5 4294967296",
+        "admit 3 1 2 4 1 3 5 -7",
+        "admit 3 1 2 4 1 3 5 +7",
+        "0 admit 3 1 2 4 1 3 5 7",
+        "ADMIT 3 1 2 4 1 3 5 7",
+        "d0 3 1 2 4 1 3 5 7",
+        "d0 3 1 2 4 1 3 5 7 8 8",
+    ];
+    for line in lines {
+        assert_eq!(answered(line).as_deref(), Some(UNKNOWN), "{line:?}");
+    }
+    assert_eq!(answer_line(b"\xff\x00\xfe").as_deref(), Some(UNKNOWN));
+}
+
+/// A line that just fits the console's room is a call; a byte more is too many. A list
+/// of any length that fits is a call.
+#[test]
+fn room_of_the_console() {
+    let tail = "1 1 0 2 0 1";
+    for (length, wanted) in [
+        (4096, "refused 4 0"),
+        (ROOM_FOR_LINE, "refused 4 0"),
+        (ROOM_FOR_LINE + 1, UNKNOWN),
+    ] {
+        let zeros = "0".repeat(length - "admit ".len() - tail.len());
+        let line = format!("admit {zeros}{tail}");
+        assert_eq!(line.len(), length);
+        assert_eq!(answered(&line).as_deref(), Some(wanted));
+    }
+    for count in [0, 64, 257, 65_000] {
+        let line = format!("admit 7 3 1 {count}{}", " 0".repeat(count));
+        assert_eq!(answered(&line).as_deref(), Some("refused 1"));
+    }
+}
+
+/// Empty lines and comments get no answer; a last line needs no newline.
+#[test]
+fn whole_input() {
+    let input = b"\n# admit\nd1 3 1 2 4 1 3 5 7 8\nno call\n\nadmit 3 1 2 4 1 3 5 7";
+    let mut output = Vec::new();
+    answer_all(&input[..], &mut output).expect("answers");
+    let wanted = "distance 1 tried 1 radius 0\nunknown\nadmitted\n";
+    assert_eq!(String::from_utf8_lossy(&output), wanted);
+}
+
+/// One carriage return before a newline or the end of the input belongs to the end of
+/// the line, also of one that just fits the room; a second one does not.
+#[test]
+fn carriage_returns() {
+    let mut input =
+        b"admit 3 1 2 4 1 3 5 7\r\n\r\n# x\r\n\r\r\nadmit 3 1 2 4 1 3 5 7\r\r\n".to_vec();
+    let tail = "3 1 2 4 1 3 5 7\r\n";
+    let zeros = "0".repeat(ROOM_FOR_LINE + 2 - "admit ".len() - tail.len());
+    input.extend(format!("admit {zeros}{tail}admit {zeros}0{tail}").bytes());
+    input.extend(b"admit 3 1 2 4 1 3 5 7\r");
+    let mut output = Vec::new();
+    answer_all(&input[..], &mut output).expect("answers");
+    let wanted = "admitted\nunknown\nunknown\nadmitted\nunknown\nadmitted\n";
+    assert_eq!(String::from_utf8_lossy(&output), wanted);
+}
+
+/// At k = 32 every message is below 2^k.
+#[test]
+fn widest_message() {
+    let units: String = (0..32).map(|i| format!(" {}", 1u32 << i)).collect();
+    let line = format!("write 32 32 0 64{units}{units} 4294967295 0 0");
+    assert_eq!(answered(&line).as_deref(), Some("word 4294967295 d 0"));
+}
