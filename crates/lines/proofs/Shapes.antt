@@ -31,25 +31,24 @@ pub unread-length : (left letter at : ℕ) (shape : List ℕ) → length (many l
 unread-length left letter at shape =
     length-append (many left letter) (drop at shape) ∙ ap₂ (λ (a b : ℕ). a + b) (length-many left letter) (length-drop at shape)
 
--- two tests of the same fact
-eqb-iff : (a b c d : ℕ) → (a ≡ b → c ≡ d) → (c ≡ d → a ≡ b) → eqb a b ≡ eqb c d
-eqb-iff a b c d f g = go (ℕ-discrete a b)
-  where
-    go : Dec (a ≡ b) → eqb a b ≡ eqb c d
-    go (yes e) = eq-eqb a b e ∙ sym (eq-eqb c d (f e))
-    go (no n) = ne-eqb a b n ∙ sym (ne-eqb c d (λ e. n (g e)))
-
 module _ (left letter at : ℕ) (shape : List ℕ) where
   -- while an item is to come the shape is not read
   pub read-item : (left ≡ 0 → ⊥) → eqb left 0 ≡ eqb (length (many left letter ++ drop at shape)) 0
   read-item n =
-      eqb-iff left 0 (length (many left letter ++ drop at shape)) 0 (λ e. absurd (n e)) (λ e. omega (arith, unread-length left letter at shape))
+      let more : length (many left letter ++ drop at shape) ≡ 0 → ⊥ = λ e. n (omega (arith, unread-length left letter at shape)) in
+      ne-eqb left 0 n ∙ sym (ne-eqb (length (many left letter ++ drop at shape)) 0 more)
 
   -- with no item to come it is read at its last letter
   pub read-shape : left ≡ 0 → at ≤ length shape → eqb at (length shape) ≡ eqb (length (many left letter ++ drop at shape)) 0
-  read-shape h k =
-      eqb-iff at (length shape) (length (many left letter ++ drop at shape)) 0 (λ e. omega (arith, unread-length left letter at shape))
-      (λ e. omega (arith, unread-length left letter at shape))
+  read-shape h k = go (ℕ-discrete at (length shape))
+    where
+      left-over : length (many left letter ++ drop at shape) ≡ left + (length shape - at)
+      left-over = unread-length left letter at shape
+
+      go : Dec (at ≡ length shape) → eqb at (length shape) ≡ eqb (length (many left letter ++ drop at shape)) 0
+      go (yes e) = eq-eqb at (length shape) e ∙ sym (eq-eqb (length (many left letter ++ drop at shape)) 0 (omega (arith, left-over)))
+      go (no n) =
+          ne-eqb at (length shape) n ∙ sym (ne-eqb (length (many left letter ++ drop at shape)) 0 (λ e. n (omega (arith, left-over))))
 
 -- a test for the end of a shape
 pub none-left : {b : Bool} (u : List ℕ) → b ≡ eqb (length u) 0 → b ≡ true → length u ≡ 0
