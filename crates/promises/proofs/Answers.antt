@@ -20,7 +20,8 @@ use Rattle.words.proofs.Firsts.{none-below}
 use Rattle.rules.proofs.Rules.{isRefusal, ofSheet, past, past-at}
 use Rattle.rules.proofs.Chains.{then-2, then-3}
 use Rattle.sheet.proofs.Verdicts.{admitted-next, past-judged}
-use Rattle.jobs.proofs.Breaches.{not-misplaced, capped-true}
+use Rattle.writing.proofs.Breaches.{not-misplaced}
+use Rattle.measuring.proofs.Caps.{capped-true}
 
 -- ---- good arguments
 

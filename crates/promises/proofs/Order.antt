@@ -21,7 +21,7 @@ use Rattle.words.proofs.Firsts.{none-below, first-all}
 use Rattle.rules.proofs.Rules.{isRefusal, ofSheet, not-told, either, either-at, past, past-at, own, own-at}
 use Rattle.rules.proofs.Chains.{then-1, then-2, then-3, last-3}
 use Rattle.sheet.proofs.Verdicts.{stray-row, code-row, message-row, G0-row, H-row, past-judged, sheet-told}
-use Rattle.jobs.proofs.Breaches.{capped-true}
+use Rattle.measuring.proofs.Caps.{capped-true}
 use Rattle.promises.proofs.Answers.{write-told, read-told}
 
 -- ---- 1 to 6: "the row given is the first row in sheet order at which the rule breaks; a rule is tried on all rows before the next rule"

@@ -34,7 +34,7 @@ pub fn write(
 {
     match sheet::admit(n, k, l, rows) {
         Admission::Refused(why) => Written::Refused(why),
-        Admission::Admitted => jobs::write(n, k, l, rows, message, stuck, levels),
+        Admission::Admitted => writing::write(n, k, l, rows, message, stuck, levels),
     }
 }
 
@@ -44,7 +44,7 @@ pub fn read(n: u32, k: u32, l: u32, rows: &[Word], y: Word, radius: u32) -> Read
 {
     match sheet::admit(n, k, l, rows) {
         Admission::Refused(why) => Reading::Refused(why),
-        Admission::Admitted => jobs::read(n, k, l, rows, y, radius),
+        Admission::Admitted => reading::read(n, k, l, rows, y, radius),
     }
 }
 
@@ -54,7 +54,7 @@ pub fn measure_d0(n: u32, k: u32, l: u32, rows: &[Word], cap: u32) -> MeasuredD0
 {
     match sheet::admit(n, k, l, rows) {
         Admission::Refused(why) => MeasuredD0::Refused(why),
-        Admission::Admitted => jobs::measure_d0(n, k, l, rows, cap),
+        Admission::Admitted => measuring::measure_d0(n, k, l, rows, cap),
     }
 }
 
@@ -64,6 +64,6 @@ pub fn measure_d1(n: u32, k: u32, l: u32, rows: &[Word], cap: u32) -> MeasuredD1
 {
     match sheet::admit(n, k, l, rows) {
         Admission::Refused(why) => MeasuredD1::Refused(why),
-        Admission::Admitted => jobs::measure_d1(n, k, l, rows, cap),
+        Admission::Admitted => measuring::measure_d1(n, k, l, rows, cap),
     }
 }
