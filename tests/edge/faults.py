@@ -44,7 +44,7 @@ def _():
     for call, error, word in (("read", "EIO", "input"), ("write", "EIO", "output"), ("write", "ENOSPC", "output")):
         for when in ("1", "2"):
             wrote, err, end, _ = traced("console", (call, "error=%s:when=%s" % (error, when)), text)
-            one_line(err, "console: standard %s: " % word)
+            one_line(err, "console: standard input: " if word == "input" else "console: standard output (answers written: %d): " % wrote.count(b"\n"))
             same(end, b"", "descriptor 3")
             holds((WORD * 3000).startswith(wrote) and wrote.endswith(WORD) | (wrote == b""), "%s, %s, %s: what was written" % (call, error, when))
     wrote, err, end, _ = traced("kitchen", ("write", "error=EIO:when=1"), b"")

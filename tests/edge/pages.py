@@ -1,4 +1,5 @@
 """What the pages say."""
+import glob
 import os
 import re
 
@@ -7,7 +8,7 @@ from .running import ROOT, holds, run, same, short, test
 
 @test("docs: the calls printed in README.md and docs/ answer as printed")
 def _():
-    pages = [os.path.join(ROOT, "README.md")] + [os.path.join(ROOT, "docs", name) for name in sorted(os.listdir(os.path.join(ROOT, "docs")))]
+    pages = [os.path.join(ROOT, "README.md")] + sorted(glob.glob(os.path.join(ROOT, "docs", "**", "*.md"), recursive=True))
     for page in pages:
         script, wanted = [], []
         with open(page) as file:

@@ -1,6 +1,7 @@
 """The real programs through the front door: input and output that come in pieces, are waited for, or fail."""
 import os
 import random
+import re
 import resource
 import signal
 import socket
@@ -142,17 +143,18 @@ def _():
 @test("console: lost output is status 1 and one line")
 def _():
     for how in (">/dev/full", ">&-"):
-        bad(redirected(how, data=WRITE), b"", "console: standard output: ")
-        bad(redirected(how, data=WRITE * 5000), b"", "console: standard output: ")
+        bad(redirected(how, data=WRITE), b"", "console: standard output (answers written: 0): ")
+        bad(redirected(how, data=WRITE * 5000), b"", "console: standard output (answers written: 0): ")
         good(redirected(how, data=b"# nothing to answer\n"), b"")
-    bad(run(CONSOLE, WRITE, stdout=gone()), None, "console: standard output: ")
+    bad(run(CONSOLE, WRITE, stdout=gone()), None, "console: standard output (answers written: 0): ")
 
 
 @test("console: a reader that goes away ends the run, though the input goes on")
 def _():
     line = '(while echo "$1"; do :; done) 2>/dev/null | { "$0"; echo $? >&2; } | head -n 1'
     _, out, err = run(["sh", "-c", line, DOOR, WRITE[:-1].decode()], stdin=subprocess.DEVNULL)
-    same((out, err), (WORD, b"console: standard output: Broken pipe\n1\n"), "output, and standard error with the status")
+    same(out, WORD, "output")
+    holds(re.fullmatch(rb"console: standard output \(answers written: [1-9]\d*\): Broken pipe\n1\n", err), "standard error with the status: %s" % short(err))
 
 
 @test("console: an output that is full after some bytes is status 1 and one line")
@@ -163,7 +165,9 @@ def _():
         status, _, err = run(CONSOLE, WRITE * 500, stdout=file, preexec_fn=limit)
     same((status, err.count(b"\n")), (1, 1), "status and lines on standard error (%s)" % short(err))
     with open(path, "rb") as file:
-        holds((WORD * 500).startswith(file.read()), "what was written is not the beginning of the answers")
+        written = file.read()
+    holds((WORD * 500).startswith(written), "what was written is not the beginning of the answers")
+    holds(status == 1 and b"(answers written: %d)" % written.count(b"\n") in err or b"signal" in err, "the answers that were written are not counted: %s" % short(err))
 
 
 @test("console: input that cannot be read is status 1 and one line")
@@ -231,7 +235,7 @@ def _():
         holds(got == wanted and err == b"", "status 0, and %d of %d bytes arrived" % (len(got), len(wanted)))
     else:
         holds(wanted.startswith(got), "what arrived is not the beginning of the answers")
-        bad((status, None, err), None, "console: standard output: ")
+        bad((status, None, err), None, "console: standard output (answers written: ")
 
 
 @test("console: a slow reader of a pipe gets every answer")

@@ -6,8 +6,10 @@ use paper::Word;
 use streams::Got;
 use streams::end_well;
 use streams::read_piece;
+use streams::tell_failure;
 use streams::write_all;
 use talk::take_step;
+use text::put_named;
 ghost use Prim.Native.Nat.{_+_, _*_, _≤_, _<_};
 ghost use mathlib.Core.Path.{_≡_};
 ghost use mathlib.Core.Bool.{true};
@@ -17,19 +19,66 @@ ghost use Rattle.text.specs.Tokens.{Whole};
 ghost use Rattle.lines.specs.Lines.{roomLine, roomNumbers};
 ghost use Rattle.talk.specs.Talk.{Rooms, Answered};
 
-// Writes an answer, and says whether it was written.
-fn write_answer(bytes: &[u8]) -> bool {
-    write_all(bytes, b"console: standard output")
+// Whether an answer was written, and how many were so far.
+struct Wrote {
+    good: bool,
+    answers: u64,
 }
 
-// What a piece of the input leaves: whether all answers were written, and how many bytes are held.
+// The number after n; the last one stays.
+fn one_more(n: u64) -> u64 {
+    if n == u64::MAX { n } else { n + 1 }
+}
+
+// Writes the answer to a line, if it gets one.
+fn write_answer(bytes: &[u8], answers: u64) -> Wrote {
+    if bytes.len() == 0 {
+        return Wrote {
+            good: true,
+            answers,
+        };
+    }
+    if write_all(bytes) {
+        return Wrote {
+            good: true,
+            answers: one_more(answers),
+        };
+    }
+    Wrote {
+        good: false,
+        answers,
+    }
+}
+
+// Tells that an answer could not be written, and how many were.
+fn tell_lost(answers: u64) {
+    let mut text = [0u8; 64];
+    let end = put_named(
+        &mut text,
+        0,
+        b"console: standard output (answers written: ",
+        answers,
+        b")",
+    );
+    tell_failure(&text[..end]);
+}
+
+// What a piece of the input leaves: whether all answers were written, how many bytes are held, and how many answers were written so far.
 struct Piece {
     written: bool,
     held: usize,
+    answers: u64,
 }
 
 // Answers each line that ends in a piece of the input, one line after the other: its answer is written before the next is looked at.
-fn take_in(input: &[u8], line: &mut [u8], held: usize, ns: &mut [Word], out: &mut [u8]) -> Piece
+fn take_in(
+    input: &[u8],
+    line: &mut [u8],
+    held: usize,
+    ns: &mut [Word],
+    out: &mut [u8],
+    answers: u64,
+) -> Piece
     requires { ⌜ held ≤ length (now line) ⌝ }
     requires { ⌜ Whole 10 (take held (now line)) ⌝ }
     requires { ⌜ Rooms (now line) (now ns) (now out) ⌝ }
@@ -39,21 +88,26 @@ fn take_in(input: &[u8], line: &mut [u8], held: usize, ns: &mut [Word], out: &mu
 {
     let mut from = 0;
     let mut held = held;
+    let mut answers = answers;
     while from < input.len() {
         let s = take_step(input, from, line, held, ns, out);
         held = s.held;
         from = s.from;
         let at = s.at;
-        if !write_answer(&out[..at]) {
+        let w = write_answer(&out[..at], answers);
+        answers = w.answers;
+        if !w.good {
             return Piece {
                 written: false,
                 held,
+                answers,
             };
         }
     }
     Piece {
         written: true,
         held,
+        answers,
     }
 }
 
@@ -73,13 +127,16 @@ fn run(input: &mut [u8], line: &mut [u8], ns: &mut [Word], out: &mut [u8]) -> bo
     requires { ⌜ Rooms (now line) (now ns) (now out) ⌝ }
 {
     let mut held = 0;
+    let mut answers: u64 = 0;
     let mut turns = u64::MAX;
     while turns > 0 {
         let got = read_input(input);
         let count = got.count;
-        let piece = take_in(&input[..count], line, held, ns, out);
+        let piece = take_in(&input[..count], line, held, ns, out, answers);
         held = piece.held;
+        answers = piece.answers;
         if !piece.written {
+            tell_lost(answers);
             return false;
         }
         if got.last {

@@ -8,9 +8,10 @@ use paper::Reading;
 use paper::Word;
 use paper::Written;
 use streams::end_well;
+use streams::tell_failure;
 use streams::write_all;
 use text::put;
-use text::put_number;
+use text::put_named;
 
 // The kitchen sheet: n 7, k 3, l 1.
 const N: u32 = 7;
@@ -24,25 +25,14 @@ fn kitchen_rows() -> [Word; 10] {
     [49, 82, 100, 127, 27, 45, 78, 9, 10, 12]
 }
 
-// A word of text, a number after it, and what ends them. A line is two of these at most, of 30 bytes each.
-fn put_part(out: &mut [u8], at: usize, name: &[u8], number: Word, end: &[u8]) -> usize
-    requires { ⌜ length (now name) + length (now end) ≤ 10 ⌝ }
-    requires { ⌜ at + 30 ≤ length (now out) ⌝ }
-    ensures { λ r. ⌜ r ≤ at + 30 ⌝ }
-{
-    let named = put(out, at, name);
-    let numbered = put_number(out, named, number as u64);
-    put(out, numbered, end)
-}
-
 // One measured distance on its line.
 fn put_distance(out: &mut [u8], at: usize, name: &[u8], d: Word, tried: Word) -> usize
     requires { ⌜ length (now name) ≤ 5 ⌝ }
     requires { ⌜ at + 60 ≤ length (now out) ⌝ }
     ensures { λ r. ⌜ r ≤ at + 60 ⌝ }
 {
-    let next = put_part(out, at, name, d, b" ");
-    put_part(out, next, b"tried ", tried, b"\n")
+    let next = put_named(out, at, name, d as u64, b" ");
+    put_named(out, next, b"tried ", tried as u64, b"\n")
 }
 
 // What the box answers else, which the four lines never show.
@@ -101,7 +91,7 @@ fn put_write(out: &mut [u8], at: usize, rows: &[Word]) -> usize
 {
     match store::write(N, K, L, rows, 5, 1, 0) {
         Written::Word { word, d: _ } => {
-            let next = put_part(out, at, b"write ", word, b"\n");
+            let next = put_named(out, at, b"write ", word as u64, b"\n");
             put_read(out, next, rows, word)
         }
         Written::Refused(_) => put_refusal(out, at),
@@ -123,7 +113,9 @@ fn main() {
     let rows = kitchen_rows();
     let mut out = [0u8; 210];
     let end = put_lines(&mut out, &rows);
-    if write_all(&out[..end], b"kitchen: standard output") {
+    if write_all(&out[..end]) {
         end_well();
+    } else {
+        tell_failure(b"kitchen: standard output");
     }
 }

@@ -1,5 +1,5 @@
 // Standard input and output, with their faults: what a signal broke off is tried again, a write that takes a part goes on with the rest, and any
-// other failure is told on standard error.
+// other failure ends the reading or writing, and can be told on standard error.
 use libc::STDIN_FILENO;
 use libc::STDOUT_FILENO;
 ghost use Prim.Native.Nat.{_≤_, _<_};
@@ -84,18 +84,22 @@ fn write_some(bytes: &[u8]) -> usize
     0
 }
 
-// Writes all of a text, and says whether it was written. A failure is told on standard error, under the given name.
-pub fn write_all(bytes: &[u8], name: &[u8]) -> bool {
+// Writes all of a text, and says whether it was written.
+pub fn write_all(bytes: &[u8]) -> bool {
     let mut done = 0;
     while done < bytes.len() {
         let count = write_some(&bytes[done..]);
         if count == 0 {
-            os::fail(name);
             return false;
         }
         done += count;
     }
     true
+}
+
+// Tells on standard error, under the given name, why the last read or write failed.
+pub fn tell_failure(name: &[u8]) {
+    os::fail(name);
 }
 
 // Says that the program ends well: a program has no exit status, so it writes a byte to descriptor 3, for a caller that opened it.

@@ -116,6 +116,17 @@ pub fn put_number(out: &mut [u8], at: usize, n: u64) -> usize
     put(out, at, &digits[..count])
 }
 
+// Puts a number behind its name, and what ends them.
+pub fn put_named(out: &mut [u8], at: usize, name: &[u8], n: u64, end: &[u8]) -> usize
+    requires { ⌜ at + length (now name) + 20 + length (now end) ≤ length (now out) ⌝ }
+    ensures { λ r. ⌜ Put (now (out .entry)) at (now (name .entry) ++ (decimal n ++ now (end .entry))) r (now (out .exit)) ⌝ }
+    ensures { λ r. ⌜ r ≤ at + length (now (name .entry)) + 20 + length (now (end .entry)) ⌝ }
+{
+    let named = put(out, at, name);
+    let numbered = put_number(out, named, n);
+    put(out, numbered, end)
+}
+
 // What was taken of a line: whether it ended, how many of its bytes are held, and where the next line begins.
 pub struct Taken {
     pub ended: bool,

@@ -2,6 +2,7 @@
 -- It is the loop over the pieces of the input.
 use mathlib.Core.Path.{_≡_, refl, sym}
 use Prim.Native.Nat.{_≤_}
+use borrow.Author.Needs.{needs}
 use native.Mathlib.Omega.{arith}
 use lib.ListN.{length, take}
 use lib.Seq.{length-take-le}
@@ -12,12 +13,12 @@ use Rattle.console.proofs.run.Statement.{statement}
 use Rattle.console.proofs.run.Tie as tie
 
 abbrev Inv-loop : tie.InvT-loop
-Inv-loop input₀ line₀ ns₀ out₀ held₀ turns₀ input line ns out held turns =
+Inv-loop input₀ line₀ ns₀ out₀ held₀ answers₀ turns₀ input line ns out held answers turns =
     (held ≤ length line) × (length input ≡ length input₀) × (length line ≡ length line₀) × (length ns ≡ length ns₀) × (length out ≡ length out₀)
     × Whole 10 (take held line)
 
 abbrev μ-loop : tie.MeasureT-loop
-μ-loop input₀ line₀ ns₀ out₀ held₀ turns₀ input line ns out held turns = turns
+μ-loop input₀ line₀ ns₀ out₀ held₀ answers₀ turns₀ input line ns out held answers turns = turns
 
 slice-aggregate-take-in : tie.Need-slice-aggregate-take-in Inv-loop μ-loop
 slice-aggregate-take-in c = sym (length-take-le _ _ (omega arith))
@@ -39,7 +40,7 @@ run-spec =
     tie.close
     (tie.spec Inv-loop μ-loop (λ c. (omega arith, refl, refl, refl, refl, whole-nil 10)) (λ c κs. omega arith)
     (λ c. omega arith) slice-aggregate-take-in take-in-requires
-    (λ c. omega arith) (λ c. omega arith) (λ c. omega arith) (λ c. omega arith) (λ c. tt)
+    (λ c κs. search needs) (λ c. omega arith) (λ c. omega arith) (λ c. omega arith) (λ c. omega arith) (λ c. tt)
     (λ c. omega arith) (λ c. omega arith) (λ c. omega arith) (λ c. omega arith) (λ c. tt)
     (λ c. omega arith) (λ c. omega arith) loop-again
     (λ c. omega arith) (λ c. omega arith) (λ c. omega arith) (λ c. omega arith) (λ c. tt))

@@ -13,12 +13,12 @@ use Rattle.console.proofs.take_in.Statement.{statement}
 use Rattle.console.proofs.take_in.Tie as tie
 
 abbrev Inv-loop : tie.InvT-loop
-Inv-loop input line₀ held ns₀ out₀ from₀ held₀ line ns out from held' =
+Inv-loop input line₀ held ns₀ out₀ answers from₀ held₀ answers₀ line ns out from held' answers' =
     (from ≤ length input) × (held' ≤ length line) × (length line ≡ length line₀) × (length ns ≡ length ns₀) × (length out ≡ length out₀)
     × Answered (take held line₀) input (take held' line) (drop from input)
 
 abbrev μ-loop : tie.MeasureT-loop
-μ-loop input line₀ held ns₀ out₀ from₀ held₀ line ns out from held' = length input - from
+μ-loop input line₀ held ns₀ out₀ answers from₀ held₀ answers₀ line ns out from held' answers' = length input - from
 
 -- a bool is not both
 apart : false ≡ true → ⊥
@@ -42,13 +42,13 @@ slice-aggregate-write-answer c = sym (length-take-le _ _ (omega arith))
 
 returns : tie.Need-returns Inv-loop μ-loop
 returns c =
-    let s = c .before .before .before .before .before .before .before .before .before .take-step in
+    let s = c .before .before .before .before .before .before .before .before .before .before .take-step in
     (omega arith, (s .ensures .0 .whole, λ e. absurd (apart e)))
 
 loop-again : tie.Need-loop-again Inv-loop μ-loop
 loop-again c =
-    let s = c .before .before .before .before .before .before .before .before .before .take-step in
-    let l = c .before .before .before .before .before .before .before .before .before .before .before .before .before .before .loop in
+    let s = c .before .before .before .before .before .before .before .before .before .before .take-step in
+    let l = c .before .before .before .before .before .before .before .before .before .before .before .before .before .before .before .loop in
     (omega arith, omega arith, omega arith, omega arith, omega arith, answered-more (l .inv .5) (s .ensures .0))
 
 returns-2 : tie.Need-returns-2 Inv-loop μ-loop

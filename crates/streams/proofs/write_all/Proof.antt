@@ -8,14 +8,14 @@ use Rattle.streams.proofs.write_all.Statement.{statement}
 use Rattle.streams.proofs.write_all.Tie as tie
 
 abbrev Inv-loop : tie.InvT-loop
-Inv-loop bytes name done₀ done = done ≤ length bytes
+Inv-loop bytes done₀ done = done ≤ length bytes
 
 abbrev μ-loop : tie.MeasureT-loop
-μ-loop bytes name done₀ done = length bytes - done
+μ-loop bytes done₀ done = length bytes - done
 
 -- what was written lies within what was left
 within : (c : tie.After-write-some Inv-loop μ-loop)
-    → c .before .before .before .loop .done + c .write-some .result ≤ length (c .before .before .before .before .before .before .args .bytes .now)
+    → c .before .before .before .loop .done + c .write-some .result ≤ length (c .before .before .before .before .before .args .bytes .now)
 within c = omega (arith, simp (length-take, length-drop) at (c .write-some .ensures))
 
 add-done : tie.Need-add-done Inv-loop μ-loop
@@ -30,5 +30,5 @@ loop-again c = omega (arith, within (c .before))
 pub write-all-spec : {M : Type 1} → statement M
 write-all-spec =
     tie.close
-    (tie.spec Inv-loop μ-loop (λ c. omega arith) (λ c. omega arith) (λ c. omega arith) (λ c. omega arith) (λ c κs. search needs)
-    (λ c κs. search needs) (λ c. search needs) add-done loop-less loop-again (λ c. search needs))
+    (tie.spec Inv-loop μ-loop (λ c. omega arith) (λ c. omega arith) (λ c. omega arith) (λ c. omega arith) (λ c κs. search needs) (λ c. search needs)
+    add-done loop-less loop-again (λ c. search needs))
