@@ -2,6 +2,7 @@
 // result at radius 1. Its whole output is four lines, put into one room and written at once; the gate compares them with `stdout` beside `src`.
 ghost use Prim.Native.Nat.{_+_, _≤_};
 ghost use lib.ListN.{length};
+use paper::Count;
 use paper::MeasuredD0;
 use paper::MeasuredD1;
 use paper::Reading;
@@ -25,13 +26,13 @@ fn kitchen_rows() -> [Word; 10] {
     [49, 82, 100, 127, 27, 45, 78, 9, 10, 12]
 }
 
-// One measured distance on its line.
-fn put_distance(out: &mut [u8], at: usize, name: &[u8], d: Word, tried: Word) -> usize
+// A number with its name and how many were tried, on a line.
+fn put_tried(out: &mut [u8], at: usize, name: &[u8], value: Word, tried: Count) -> usize
     requires { ⌜ length (now name) ≤ 5 ⌝ }
     requires { ⌜ at + 60 ≤ length (now out) ⌝ }
     ensures { λ r. ⌜ r ≤ at + 60 ⌝ }
 {
-    let next = put_named(out, at, name, d as u64, b" ");
+    let next = put_named(out, at, name, value as u64, b" ");
     put_named(out, next, b"tried ", tried as u64, b"\n")
 }
 
@@ -49,7 +50,7 @@ fn put_d0(out: &mut [u8], at: usize, rows: &[Word]) -> usize
     ensures { λ r. ⌜ r ≤ at + 60 ⌝ }
 {
     match store::measure_d0(N, K, L, rows, 8) {
-        MeasuredD0::Distance { d, tried } => put_distance(out, at, b"d0 ", d, tried),
+        MeasuredD0::Distance { d, tried } => put_tried(out, at, b"d0 ", d, tried),
         _ => put_refusal(out, at),
     }
 }
@@ -64,7 +65,7 @@ fn put_d1(out: &mut [u8], at: usize, rows: &[Word]) -> usize
             d,
             tried,
             radius: _,
-        } => put_distance(out, at, b"d1 ", d, tried),
+        } => put_tried(out, at, b"d1 ", d, tried),
         _ => put_refusal(out, at),
     }
 }
@@ -79,7 +80,7 @@ fn put_read(out: &mut [u8], at: usize, rows: &[Word], word: Word) -> usize
             message,
             z: _,
             tried,
-        } => put_distance(out, at, b"read ", message, tried),
+        } => put_tried(out, at, b"read ", message, tried),
         Reading::Refused(_) => put_refusal(out, at),
     }
 }

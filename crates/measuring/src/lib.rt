@@ -1,5 +1,5 @@
 // Measuring the plate of an admitted sheet: the cap is judged, and the list is searched for the first word that has the distance's property.
-// It does not ask whether the sheet is admitted: a call that lends one sheet to many jobs checks it once.
+// The sheet is not checked here: the caller has, so that one which does many jobs on a sheet checks it once.
 ghost use mathlib.Core.Path.{_≡_};
 ghost use Prim.Native.Nat.{_≤_};
 ghost use Rattle.paper.specs.Refusals.{measuredD0, measuredD1};

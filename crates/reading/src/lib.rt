@@ -1,5 +1,5 @@
 // Reading on an admitted sheet: the word and the radius are judged in the order of the table "When the box says no", and the nearest codeword is searched for.
-// It does not ask whether the sheet is admitted: a call that lends one sheet to many jobs checks it once.
+// The sheet is not checked here: the caller has, so that one which does many jobs on a sheet checks it once.
 ghost use mathlib.Core.Path.{_≡_};
 ghost use Prim.Native.Nat.{_≤_};
 ghost use Rattle.paper.specs.First.{first};

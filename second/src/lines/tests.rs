@@ -131,14 +131,19 @@ fn room_of_the_console() {
     }
 }
 
+/// The answers to a whole input.
+fn all_answered(input: &[u8]) -> String {
+    let mut output = Vec::new();
+    answer_all(input, &mut output).expect("answers");
+    String::from_utf8(output).expect("text")
+}
+
 /// Empty lines and comments get no answer; a last line needs no newline.
 #[test]
 fn whole_input() {
     let input = b"\n# admit\nd1 3 1 2 4 1 3 5 7 8\nno call\n\nadmit 3 1 2 4 1 3 5 7";
-    let mut output = Vec::new();
-    answer_all(&input[..], &mut output).expect("answers");
     let wanted = "distance 1 tried 1 radius 0\nunknown\nadmitted\n";
-    assert_eq!(String::from_utf8_lossy(&output), wanted);
+    assert_eq!(all_answered(input), wanted);
 }
 
 /// One carriage return before a newline or the end of the input belongs to the end of
@@ -151,10 +156,8 @@ fn carriage_returns() {
     let zeros = "0".repeat(ROOM_FOR_LINE + 2 - "admit ".len() - tail.len());
     input.extend(format!("admit {zeros}{tail}admit {zeros}0{tail}").bytes());
     input.extend(b"admit 3 1 2 4 1 3 5 7\r");
-    let mut output = Vec::new();
-    answer_all(&input[..], &mut output).expect("answers");
     let wanted = "admitted\nunknown\nunknown\nadmitted\nunknown\nadmitted\n";
-    assert_eq!(String::from_utf8_lossy(&output), wanted);
+    assert_eq!(all_answered(&input), wanted);
 }
 
 /// At k = 32 every message is below 2^k.
