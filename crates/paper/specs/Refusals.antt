@@ -4,7 +4,7 @@ use mathlib.Core.List.{List, [], _∷_}
 use Prim.Native.Nat.{ℕ, _+_}
 use Rattle.paper.specs.First.{First, nowhere, at}
 use Rattle.paper.specs.declared.Refusal.{Refusal}
-use Rattle.paper.specs.declared.Refusal.the-variants.{Shape, Stray, OffCode, OffMessage, DependentG0, DependentH, Message, Stuck, NoWord, ReadWord, Limit, NoCodeword}
+use Rattle.paper.specs.declared.Refusal.the-variants.{Shape, Stray, OffCode, OffMessage, DependentG0, DependentH, Message, Stuck, NoWord, ReadWord, Limit, NoCodeword, Crowded, NoSlot, Record}
 use Rattle.paper.specs.declared.Admission.{Admission}
 use Rattle.paper.specs.declared.Admission.the-variants as Admission
 use Rattle.paper.specs.declared.Written.{Written}
@@ -31,11 +31,11 @@ pub record Reason : Type 0 where
 abbrev pub bare : ℕ → Reason
 bare number = record { number = number; given = [] }
 
--- a reason with which a row, a cell or a number tried is given
+-- a reason with which a row, a cell, a number tried or a record's place is given
 abbrev pub giving : ℕ → ℕ → Reason
 giving number value = record { number = number; given = value ∷ [] }
 
--- "When the box says no": each reason's number, and what is given with it
+-- "When the box says no", and the "new refusals" of the change requests: each reason's number, and what is given with it
 abbrev pub reason : Refusal → Reason
 reason Shape = bare 1
 reason (Stray row) = giving 2 row
@@ -49,6 +49,9 @@ reason NoWord = bare 9
 reason (ReadWord cell) = giving 10 cell
 reason Limit = bare 11
 reason (NoCodeword tried) = giving 12 tried
+reason Crowded = bare 13
+reason NoSlot = bare 14
+reason (Record place) = giving 15 place
 
 -- "the refusal carries its reason"
 abbrev pub refused : Refusal → Told

@@ -16,6 +16,19 @@ pub const MOST_RADIUS: u32 = 4;
 // The largest cap: `mostCap` of specs/Plate.antt.
 pub const MOST_CAP: u32 = 8;
 
+// The most slots of a page: `mostSlots` of specs/Page.antt.
+pub const MOST_SLOTS: usize = 2048;
+
+// The most records of stuck cells: `mostRecords` of specs/Page.antt.
+pub const MOST_RECORDS: usize = 256;
+
+// A record of the list in which a page's stuck cells arrive: "each naming slot, cell and level".
+pub struct StuckCell {
+    pub slot: u32,
+    pub cell: u32,
+    pub level: u8,
+}
+
 // Why a call is refused: "the refusal carries its reason and the reason carries its row".
 pub enum Refusal {
     Shape,
@@ -30,6 +43,9 @@ pub enum Refusal {
     ReadWord { cell: u32 },
     Limit,
     NoCodeword { tried: Count },
+    Crowded,
+    NoSlot,
+    Record { place: usize },
 }
 
 // What admitting a sheet answers.

@@ -6,13 +6,13 @@ use Prim.Native.Nat.{ℕ}
 use lib.ListN.{getD}
 use Rattle.paper.specs.Refusals.{reason}
 use Rattle.paper.specs.declared.Refusal.{Refusal}
-use Rattle.paper.specs.declared.Refusal.the-variants.{Shape, Stray, OffCode, OffMessage, DependentG0, DependentH, Message, Stuck, NoWord, ReadWord, Limit, NoCodeword}
+use Rattle.paper.specs.declared.Refusal.the-variants.{Shape, Stray, OffCode, OffMessage, DependentG0, DependentH, Message, Stuck, NoWord, ReadWord, Limit, NoCodeword, Crowded, NoSlot, Record}
 
 -- the reasons by their numbers, from 0 on; the first stands in for a number that none has
 reasons : ℕ → List Refusal
 reasons given =
     Shape ∷ Shape ∷ Stray given ∷ OffCode given ∷ OffMessage given ∷ DependentG0 given ∷ DependentH given ∷ Message ∷ Stuck given ∷ NoWord
-    ∷ ReadWord given ∷ Limit ∷ NoCodeword given ∷ []
+    ∷ ReadWord given ∷ Limit ∷ NoCodeword given ∷ Crowded ∷ NoSlot ∷ Record given ∷ []
 
 -- the reason of a number and of what is given with it
 pub reasonOf : ℕ → List ℕ → Refusal
@@ -32,3 +32,6 @@ told-back NoWord = refl
 told-back (ReadWord cell) = refl
 told-back Limit = refl
 told-back (NoCodeword tried) = refl
+told-back Crowded = refl
+told-back NoSlot = refl
+told-back (Record place) = refl

@@ -65,6 +65,20 @@ fn giving_count(number: u32, tried: Count) -> Numbers
     }
 }
 
+// A refusal with a record's place in its list.
+fn giving_index(number: u32, place: usize) -> Numbers
+    ensures { λ r. ⌜ tells r ≡ refusal number (place ∷ []) ⌝ }
+{
+    Numbers {
+        kind: 2,
+        number,
+        count: 1,
+        a: place as u64,
+        b: 0,
+        c: 0,
+    }
+}
+
 // An answer without values.
 fn done() -> Numbers
     ensures { λ r. ⌜ tells r ≡ answer [] ⌝ }
@@ -180,6 +194,9 @@ pub fn of_refusal(why: Refusal) -> Numbers
         Refusal::ReadWord { cell } => giving_place(10, cell),
         Refusal::Limit => bare(11),
         Refusal::NoCodeword { tried } => giving_count(12, tried),
+        Refusal::Crowded => bare(13),
+        Refusal::NoSlot => bare(14),
+        Refusal::Record { place } => giving_index(15, place),
     }
 }
 
