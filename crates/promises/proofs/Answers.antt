@@ -1,35 +1,28 @@
 -- What the calls answer on an admitted sheet when the arguments are good, and what an answer says of the arguments.
 -- Every other theorem of the calls starts from these. Assumes nothing.
-use mathlib.Core.Path.{_≡_, refl, ap, _∙_}
+use mathlib.Core.Path.{_≡_, refl, _∙_}
 use mathlib.Core.Bool.{Bool, true, false}
 use mathlib.Core.Logic.{_↔_, Iff·rfl}
 use Prim.Native.Nat.{ℕ, _^_, _≤_, _<_}
-use native.Mathlib.Omega.{arith}
 use borrow.Author.Tests.{ltb-true, lt-ltb, leb-true, le-leb}
 use lib.Dec.{leb, ltb}
 use Rattle.paper.specs.First.{nowhere, first}
-use Rattle.paper.specs.Words.{width, cell}
+use Rattle.paper.specs.Words.{width}
 use Rattle.paper.specs.Refusals.{Told}
 use Rattle.paper.specs.Sheet.{Sheet, Admitted}
 use Rattle.paper.specs.Writing.{misplaced, fitting, chosen, writesAdmitted, writes}
 use Rattle.paper.specs.Reading.{mostRadius, strayCell, nearest, heard, readsAdmitted, reads}
 use Rattle.paper.specs.Plate.{mostCap, searchD0, searchD1, plateD0, plateD1, capped, measuresAdmittedD0, measuresAdmittedD1, measuresD0, measuresD1}
 use Rattle.paper.specs.Promised.{Stuck}
-use Rattle.words.proofs.Cells.{cell-and, cell-above}
+use Rattle.words.proofs.Cells.{cell-above}
 use Rattle.words.proofs.Firsts.{none-below}
 use Rattle.rules.proofs.Rules.{isRefusal, ofSheet, past, past-at}
 use Rattle.rules.proofs.Chains.{then-2, then-3}
 use Rattle.sheet.proofs.Verdicts.{admitted-next, past-judged}
-use Rattle.writing.proofs.Breaches.{not-misplaced}
+use Rattle.writing.proofs.Breaches.{stuck-passes}
 use Rattle.measuring.proofs.Caps.{capped-true}
 
 -- ---- good arguments
-
--- good stuck cells pass rule 8
-pub stuck-passes : (s : Sheet) (stuck levels : ℕ) → Stuck s stuck levels → first width (misplaced (s .n) stuck levels) ≡ nowhere
-stuck-passes s stuck levels h =
-    none-below _ width
-    (λ i l. not-misplaced (s .n) stuck levels i .1 (cell-above (h .cells) i, omega (arith, cell-and levels stuck i, ap (λ (x : ℕ). cell x i) (h .inside))))
 
 -- a word over n cells passes rule 10
 pub word-passes : (s : Sheet) (y : ℕ) → y < 2 ^ s .n → first width (strayCell (s .n) y) ≡ nowhere

@@ -30,7 +30,8 @@ use Rattle.elimination.specs.Evidence.{Evidence}
 use Rattle.elimination.proofs.Alternative.{alternative, never-both}
 use Rattle.sheet.proofs.Verdicts.{sound}
 use Rattle.promises.proofs.Tests.{fails, not-below, any-at, nonzero}
-use Rattle.promises.proofs.Answers.{stuck-passes, writes-on}
+use Rattle.writing.proofs.Breaches.{stuck-passes}
+use Rattle.promises.proofs.Answers.{writes-on}
 use Rattle.promises.proofs.Order.{write-9}
 use Rattle.promises.proofs.Writing.{written-fits, writes-free}
 use Rattle.promises.proofs.Reading.{read-first, near-read}

@@ -21,7 +21,8 @@ use Rattle.sheet.proofs.Verdicts.{sound}
 use Rattle.sheet.proofs.Messages.{word-of, words-of}
 use Rattle.promises.proofs.Tests.{not-below}
 use Rattle.rules.proofs.Rules.{not-told}
-use Rattle.promises.proofs.Answers.{stuck-passes, write-told, writes-on}
+use Rattle.writing.proofs.Breaches.{stuck-passes}
+use Rattle.promises.proofs.Answers.{write-told, writes-on}
 use Rattle.promises.proofs.Order.{write-9}
 
 -- "A word fits if it equals the level at every stuck cell": what is said by a mask, cell by cell

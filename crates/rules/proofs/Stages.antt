@@ -33,6 +33,11 @@ pub refused-alike : {f : Told → Told} → Stage f → {number : ℕ} {given : 
 refused-alike (passes p) e next = let q = p (answer []) in let z : _≡_ {A = ℕ} 0 1 = cc in absurd (omega arith)
 refused-alike (refuses m g p) e next = p next ∙ sym (p (answer [])) ∙ e
 
+-- and what passes to an answer passes to whatever comes next
+pub passed-alike : {f : Told → Told} → Stage f → f (answer []) ≡ answer [] → (next : Told) → f next ≡ next
+passed-alike (passes p) e next = p next
+passed-alike (refuses m g p) e next = let q = p (answer []) in let z : _≡_ {A = ℕ} 0 1 = cc in absurd (omega arith)
+
 -- and what is refused, but not by what comes next, is refused where an answer comes next
 pub alike-refused : {f : Told → Told} → Stage f → {number : ℕ} {given : List ℕ} (next : Told) → (next ≡ refusal number given → ⊥)
     → f next ≡ refusal number given → f (answer []) ≡ refusal number given

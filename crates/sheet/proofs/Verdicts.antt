@@ -85,7 +85,7 @@ past-judged s next t h =
 -- ---- a refused sheet is refused alike by every call
 
 -- the sheet's rules as one chain
-judged-stage : (s : Sheet) → Stage (judged s)
+pub judged-stage : (s : Sheet) → Stage (judged s)
 unfolding judged judgedRows judgedSums
 judged-stage s =
     then (unless-stage (shaped s) 1)

@@ -1,6 +1,6 @@
 -- The cells that break rule 8, told by the word that the code makes of them, and what the rule asks of each cell.
 -- For the judgement of stuck cells, and for what a write's answer says of them. Assumes nothing.
-use mathlib.Core.Path.{_≡_, refl, sym, _∙_}
+use mathlib.Core.Path.{_≡_, refl, sym, ap, _∙_}
 use mathlib.Core.Bool.{Bool, true, false, cond, _&&_, _||_, true≢false, or-true, and-false}
 use mathlib.Core.Logic.{_⊎_, inl, inr, _↔_}
 use Prim.Native.Nat.{ℕ, zero, suc, _+_, _%_, _^_, _≤_, _<_, min, max}
@@ -10,11 +10,13 @@ use borrow.Author.Tests.{leb-true, le-leb}
 use lib.Bits.{bitAnd, bitOr, and-le-l}
 use lib.Dec.{eqb, leb}
 use Rattle.paper.specs.First.{nowhere, first}
-use Rattle.paper.specs.Words.{cell, _⊕_}
+use Rattle.paper.specs.Promised.{Stuck}
+use Rattle.paper.specs.Sheet.{Sheet}
+use Rattle.paper.specs.Words.{width, cell, _⊕_}
 use Rattle.paper.specs.Writing.{misplaced}
-use Rattle.words.proofs.Cells.{cell-and, cell-or, cell-lt, cell-cases, ext}
+use Rattle.words.proofs.Cells.{cell-and, cell-or, cell-lt, cell-cases, cell-above, ext}
 use Rattle.words.proofs.Sums.{cell-⊕, cell-strays}
-use Rattle.words.proofs.Firsts.{first-all}
+use Rattle.words.proofs.Firsts.{first-all, none-below}
 
 -- rule 8, cell by cell
 pub misplaced-cell : (n stuck levels i : ℕ)
@@ -60,3 +62,9 @@ pub levels-inside : (w n stuck levels : ℕ) → levels < 2 ^ w → first w (mis
 levels-inside w n stuck levels h e =
     ext w (lt-of-le-of-lt (and-le-l levels stuck) h) h
     (λ i l. cell-and levels stuck i ∙ omega (arith, not-misplaced n stuck levels i .0 (first-all _ w i e l) .1))
+
+-- good stuck cells pass rule 8
+pub stuck-passes : (s : Sheet) (stuck levels : ℕ) → Stuck s stuck levels → first width (misplaced (s .n) stuck levels) ≡ nowhere
+stuck-passes s stuck levels h =
+    none-below _ width
+    (λ i l. not-misplaced (s .n) stuck levels i .1 (cell-above (h .cells) i, omega (arith, cell-and levels stuck i, ap (λ (x : ℕ). cell x i) (h .inside))))
