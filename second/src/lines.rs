@@ -1,6 +1,7 @@
 //! The line protocol: a call from a line, an answer to a line.
 
 use crate::calls::{admitting, d0, d1, read, write, Answer, Measured};
+use crate::page::{page_read, page_write, Record};
 use crate::sheet::{Refusal, Sheet};
 use std::io::{self, BufRead, Write};
 
@@ -58,12 +59,33 @@ fn answer_call(line: &[u8]) -> Option<String> {
         (b"read", [y, radius]) => read(&sheet, *y, *radius),
         (b"d0", [cap]) => d0(&sheet, *cap),
         (b"d1", [cap]) => d1(&sheet, *cap),
+        (b"pread", [_, rest @ ..]) => page_reading(&sheet, rest)?,
+        (b"pwrite", [_, rest @ ..]) => return page_writing(&sheet, rest),
         _ => return None,
     };
-    Some(match result {
-        Ok(answer) => answer_text(answer),
-        Err(refusal) => refusal_text(refusal),
-    })
+    Some(result_text(result))
+}
+
+/// `pread` after the sheet and the number: the page, slot and radius.
+fn page_reading(sheet: &Sheet, numbers: &[u32]) -> Option<Result<Answer, Refusal>> {
+    let (page, rest) = list_and_rest(numbers)?;
+    let [slot, radius] = rest else {
+        return None;
+    };
+    Some(page_read(sheet, page, *slot, *radius))
+}
+
+/// `pwrite` after the sheet and the number: the page, the records, slot and message. Its
+/// answer, also a refusal, ends with the page as it is after the call.
+fn page_writing(sheet: &Sheet, numbers: &[u32]) -> Option<String> {
+    let (page, rest) = list_and_rest(numbers)?;
+    let (records, rest) = records_and_rest(rest)?;
+    let [slot, message] = rest else {
+        return None;
+    };
+    let mut page = page.to_vec();
+    let result = page_write(sheet, &mut page, &records, *slot, *message);
+    Some(format!("{} page {}", result_text(result), list_text(&page)))
 }
 
 /// A number token: one or more decimal digits whose value 32 bits can hold.
@@ -82,16 +104,19 @@ fn number(token: &[u8]) -> Option<u32> {
     Some(value)
 }
 
+/// LIST: a count and so many numbers, then the numbers that are left.
+fn list_and_rest(numbers: &[u32]) -> Option<(&[u32], &[u32])> {
+    let (count, after) = numbers.split_first()?;
+    let count = *count as usize;
+    (count <= after.len()).then(|| after.split_at(count))
+}
+
 /// SHEET: n k l and a LIST of rows, then the numbers that are left for the call.
 fn sheet_and_rest(numbers: &[u32]) -> Option<(Sheet, &[u32])> {
-    let [n, k, l, count, after @ ..] = numbers else {
+    let [n, k, l, after @ ..] = numbers else {
         return None;
     };
-    let count = *count as usize;
-    if count > after.len() {
-        return None;
-    }
-    let (rows, rest) = after.split_at(count);
+    let (rows, rest) = list_and_rest(after)?;
     let sheet = Sheet {
         n: *n,
         k: *k,
@@ -99,6 +124,41 @@ fn sheet_and_rest(numbers: &[u32]) -> Option<(Sheet, &[u32])> {
         rows: rows.to_vec(),
     };
     Some((sheet, rest))
+}
+
+/// RECS: a count and so many times slot, cell and level, then the numbers that are left.
+/// A level that 8 bits cannot hold makes the line no call.
+fn records_and_rest(numbers: &[u32]) -> Option<(Vec<Record>, &[u32])> {
+    let (count, mut rest) = numbers.split_first()?;
+    let mut records = Vec::new();
+    for _ in 0..*count {
+        let [slot, cell, level, after @ ..] = rest else {
+            return None;
+        };
+        records.push(Record {
+            slot: *slot,
+            cell: *cell,
+            level: u8::try_from(*level).ok()?,
+        });
+        rest = after;
+    }
+    Some((records, rest))
+}
+
+/// An answer or a refusal.
+fn result_text(result: Result<Answer, Refusal>) -> String {
+    match result {
+        Ok(answer) => answer_text(answer),
+        Err(refusal) => refusal_text(refusal),
+    }
+}
+
+/// LIST, of a page.
+fn list_text(numbers: &[u32]) -> String {
+    let tokens = std::iter::once(numbers.len().to_string())
+        .chain(numbers.iter().map(u32::to_string))
+        .collect::<Vec<String>>();
+    tokens.join(" ")
 }
 
 /// `refused NUMBER` or `refused NUMBER PLACE`.

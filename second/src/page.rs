@@ -1,0 +1,86 @@
+//! The page of request 1: the records of one slot, judged in their order; writing to a
+//! slot and reading from one.
+
+use crate::calls::{read, write, Answer};
+use crate::sheet::{admit, bare, placed, Refusal, Sheet};
+
+/// "up to 256 of them": more records are refusal 13.
+const MOST_RECORDS: usize = 256;
+
+/// "One page holds up to 2,048 words": more slots are refusal 13.
+const MOST_SLOTS: usize = 2_048;
+
+/// A record of a stuck cell: "each naming slot, cell and level".
+#[derive(Clone, Copy, Debug, PartialEq, Eq)]
+pub struct Record {
+    pub slot: u32,
+    pub cell: u32,
+    pub level: u8,
+}
+
+/// Writes a message to a slot of the page around the stuck cells that the records name:
+/// refusals 1 to 6, 13, 14, 15, 7 and 9. Refused, it leaves the page as it was.
+pub fn page_write(
+    sheet: &Sheet,
+    page: &mut [u32],
+    records: &[Record],
+    slot: u32,
+    message: u32,
+) -> Result<Answer, Refusal> {
+    let n = admit(sheet)?.n;
+    if records.len() > MOST_RECORDS || page.len() > MOST_SLOTS {
+        return Err(bare(13));
+    }
+    let place = slot as usize;
+    if place >= page.len() {
+        return Err(bare(14));
+    }
+    let own = of_slot(records, slot);
+    if let Some(first) = (0..own.len()).find(|i| breaks(n, &own[..*i], own[*i])) {
+        return Err(placed(15, first as u32));
+    }
+    let (stuck, levels) = two_words(n, &own);
+    let answer = write(sheet, message, stuck, levels)?;
+    if let Answer::Word { word, .. } = answer {
+        page[place] = word;
+    }
+    Ok(answer)
+}
+
+/// Reads a slot of the page: refusals 1 to 6, 13 for slots, 14, 10, 11 and 12. It sees
+/// no records.
+pub fn page_read(sheet: &Sheet, page: &[u32], slot: u32, radius: u32) -> Result<Answer, Refusal> {
+    admit(sheet)?;
+    if page.len() > MOST_SLOTS {
+        return Err(bare(13));
+    }
+    let y = page.get(slot as usize).ok_or(bare(14))?;
+    read(sheet, *y, radius)
+}
+
+/// This slot's records, in their order: "records for other slots are not judged".
+fn of_slot(records: &[Record], slot: u32) -> Vec<Record> {
+    let own = records.iter().filter(|record| record.slot == slot);
+    own.copied().collect()
+}
+
+/// Refusal 15's rule: the record "names a cell at n or above, has a level other than 0
+/// or 1, or disagrees with an earlier record for this slot and cell".
+fn breaks(n: u32, earlier: &[Record], record: Record) -> bool {
+    let disagrees = |other: &Record| other.cell == record.cell && other.level != record.level;
+    record.cell >= n || record.level > 1 || earlier.iter().any(disagrees)
+}
+
+/// Which cells are stuck, and their levels, cell by cell: a cell is stuck if any record
+/// names it, at the level that its first record gives.
+fn two_words(n: u32, own: &[Record]) -> (u32, u32) {
+    let level_of = |cell| own.iter().find(|record| record.cell == cell);
+    let named = (0..n).filter_map(level_of);
+    named.fold((0, 0), |(stuck, levels), record| {
+        let worth = 1 << record.cell;
+        (stuck + worth, levels + worth * u32::from(record.level))
+    })
+}
+
+#[cfg(test)]
+mod tests;
