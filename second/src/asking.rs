@@ -7,7 +7,7 @@ use crate::sheet::{sum_of, Sheet};
 /// The longest list that a call has to go through, as a rule, on more than 20 cells.
 const LONG_LIST: u64 = 50_000;
 
-/// The verbs of the calls.
+/// The verbs of the calls of document 01.
 #[derive(Clone, Copy, PartialEq, Eq)]
 pub enum Verb {
     Admit,
@@ -68,24 +68,33 @@ pub fn any_call(random: &mut Random, verb: Verb, sheet: &Sheet, odd: bool) -> St
 
 /// A call as a line of the protocol.
 pub fn call_text(verb: Verb, sheet: &Sheet, arguments: &[u32]) -> String {
+    line_text(verb.name(), sheet, arguments)
+}
+
+/// A line of the protocol: a verb, a sheet and the numbers after it.
+pub fn line_text(verb: &str, sheet: &Sheet, arguments: &[u32]) -> String {
     let head = [sheet.n, sheet.k, sheet.l, sheet.rows.len() as u32];
     let numbers = head.iter().chain(&sheet.rows).chain(arguments);
-    let name = verb.name().to_string();
-    numbers.fold(name, |line, number| format!("{line} {number}"))
+    let mut line = verb.to_string();
+    for number in numbers {
+        line.push(' ');
+        line.push_str(&number.to_string());
+    }
+    line
 }
 
 /// The cells of a sheet, also of one whose n is wrong: 1 to 32.
-fn cells(sheet: &Sheet) -> u32 {
+pub fn cells(sheet: &Sheet) -> u32 {
     sheet.n.clamp(1, 32)
 }
 
 /// A message below 2^k, as far as k is a right one.
-fn good_message(random: &mut Random, sheet: &Sheet) -> u32 {
+pub fn good_message(random: &mut Random, sheet: &Sheet) -> u32 {
     random.word(sheet.k.min(32))
 }
 
 /// Some word of a message: wG1 + dG0, with any d; 0 on a sheet with too few rows.
-fn word_of(random: &mut Random, sheet: &Sheet, message: u32) -> u32 {
+pub fn word_of(random: &mut Random, sheet: &Sheet, message: u32) -> u32 {
     let (k, l) = (sheet.k as usize, sheet.l as usize);
     if k.saturating_add(l) > sheet.rows.len() || k > 32 || l > 32 {
         return 0;
@@ -96,7 +105,7 @@ fn word_of(random: &mut Random, sheet: &Sheet, message: u32) -> u32 {
 
 /// Message, stuck and levels: none, few, many or all cells stuck, at the levels of a
 /// word of the message, at such levels but for one cell, or at random levels.
-fn good_write(random: &mut Random, sheet: &Sheet) -> Vec<u32> {
+pub fn good_write(random: &mut Random, sheet: &Sheet) -> Vec<u32> {
     let n = cells(sheet);
     let message = good_message(random, sheet);
     let every = u32::MAX >> (32 - n);
@@ -143,7 +152,7 @@ fn odd_write(random: &mut Random, sheet: &Sheet) -> Vec<u32> {
 }
 
 /// A message around 2^k, or any number at all.
-fn odd_message(random: &mut Random, sheet: &Sheet) -> u32 {
+pub fn odd_message(random: &mut Random, sheet: &Sheet) -> u32 {
     let limit = 1u64 << sheet.k.min(32);
     match random.below(5) {
         0 => (limit - 1) as u32,
@@ -155,7 +164,7 @@ fn odd_message(random: &mut Random, sheet: &Sheet) -> u32 {
 }
 
 /// A word with bits at cell n or above only; at n = 32 there are none.
-fn high_bits(random: &mut Random, n: u32) -> u32 {
+pub fn high_bits(random: &mut Random, n: u32) -> u32 {
     let above = u32::MAX.checked_shl(n).unwrap_or(0);
     match random.below(3) {
         0 => above & (1u32.checked_shl(n).unwrap_or(0)),
@@ -165,7 +174,7 @@ fn high_bits(random: &mut Random, n: u32) -> u32 {
 }
 
 /// y and radius: a codeword disturbed in 0 to 5 cells, or any word.
-fn good_read(random: &mut Random, sheet: &Sheet) -> Vec<u32> {
+pub fn good_read(random: &mut Random, sheet: &Sheet) -> Vec<u32> {
     let n = cells(sheet);
     let message = good_message(random, sheet);
     let errors = random.between(0, 5);
@@ -189,7 +198,7 @@ fn odd_read(random: &mut Random, sheet: &Sheet) -> Vec<u32> {
 }
 
 /// A radius or a cap from 0 to somewhat more than allowed, or a huge one.
-fn odd_limit(random: &mut Random, last: u32) -> u32 {
+pub fn odd_limit(random: &mut Random, last: u32) -> u32 {
     match random.below(6) {
         0 => random.one_of(&[256, 257, 1 << 16, 1 << 31, u32::MAX]),
         1 => random.word(32),

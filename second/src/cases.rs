@@ -1,10 +1,11 @@
-//! Cases repeatable from a seed: good calls, calls with broken sheets or odd arguments,
-//! and lines that are no calls.
+//! Cases repeatable from a seed: good calls, on pages and not, calls with broken sheets or
+//! odd arguments, and lines that are no calls.
 
 use crate::asking::{any_call, call_text, far_sheet, good_call, Verb};
 use crate::breaking::broken_sheet;
 use crate::making::some_sheet;
 use crate::noise::noise_line;
+use crate::paging::page_call;
 use crate::random::Random;
 use std::io::{self, Write};
 
@@ -26,10 +27,21 @@ pub fn print_cases(seed: u64, count: u64, mut output: impl Write) -> io::Result<
     output.flush()
 }
 
-/// One line of any kind.
+/// One line of any kind; of the calls one in three is a page call.
 fn case_line(random: &mut Random) -> Vec<u8> {
+    let paged = random.once_in(3);
     match random.below(100) {
         0..=8 => noise_line(random),
+        9..=32 if paged => {
+            let sheet = broken_sheet(random);
+            let odd = random.once_in(3);
+            page_call(random, &sheet, odd).into_bytes()
+        }
+        33..=99 if paged => {
+            let sheet = some_sheet(random);
+            let odd = random.once_in(2);
+            page_call(random, &sheet, odd).into_bytes()
+        }
         9..=32 => {
             let sheet = broken_sheet(random);
             let verb = random.one_of(&Verb::ALL);

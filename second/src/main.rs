@@ -11,6 +11,7 @@ mod listing;
 mod making;
 mod noise;
 mod page;
+mod paging;
 mod random;
 mod sheet;
 mod small;

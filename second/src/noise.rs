@@ -1,13 +1,15 @@
 //! Lines that are no calls, or hardly calls: they get no answer, `unknown`, or, at the
 //! very edge of what a call may be, the answer of a call.
 
-use crate::asking::good_call;
+use crate::asking::{good_call, line_text};
 use crate::lines::ROOM_FOR_LINE;
+use crate::making::kitchen;
+use crate::paging::{good_page_call, good_page_write};
 use crate::random::Random;
 
 /// One line of noise.
 pub fn noise_line(random: &mut Random) -> Vec<u8> {
-    match random.below(13) {
+    match random.below(17) {
         0 => silent_line(random),
         1 => wrong_verb(random),
         2..=4 => wrong_token(random),
@@ -17,13 +19,30 @@ pub fn noise_line(random: &mut Random) -> Vec<u8> {
         9 => padded_line(random),
         10 => many_rows(random),
         11 => carriage_return(random),
+        12 | 13 => wrong_level(random),
+        14 => wrong_page_count(random),
+        15 => many_slots(random),
         _ => garbage(random),
     }
 }
 
+/// A good call, on a page or not.
+fn some_call(random: &mut Random) -> String {
+    if random.once_in(3) {
+        good_page_call(random)
+    } else {
+        good_call(random)
+    }
+}
+
+/// The tokens of a line.
+fn tokens_of(line: String) -> Vec<String> {
+    line.split(' ').map(str::to_string).collect()
+}
+
 /// The tokens of a good call.
 fn good_tokens(random: &mut Random) -> Vec<String> {
-    good_call(random).split(' ').map(str::to_string).collect()
+    tokens_of(some_call(random))
 }
 
 /// One line from its tokens.
@@ -33,7 +52,7 @@ fn joined(tokens: Vec<String>) -> Vec<u8> {
 
 /// An empty line or a comment, which get no answer.
 fn silent_line(random: &mut Random) -> Vec<u8> {
-    let call = good_call(random);
+    let call = some_call(random);
     match random.below(6) {
         0 | 1 => vec![],
         2 => b"#".to_vec(),
@@ -43,7 +62,7 @@ fn silent_line(random: &mut Random) -> Vec<u8> {
     }
 }
 
-/// A call under a verb that the base does not have.
+/// A call under another verb or under none.
 fn wrong_verb(random: &mut Random) -> Vec<u8> {
     let mut tokens = good_tokens(random);
     let verbs = [
@@ -63,6 +82,10 @@ fn wrong_verb(random: &mut Random) -> Vec<u8> {
         "0",
         "1",
         "pwrite",
+        "pread",
+        "pwrit",
+        "preads",
+        "Pwrite",
         "walk",
         "unknown",
         "d0\t",
@@ -126,9 +149,100 @@ fn wrong_count(random: &mut Random) -> Vec<u8> {
     joined(tokens)
 }
 
+/// The place after a list whose count is at this place of a line's tokens, the entries
+/// having so many tokens each.
+fn after_list(tokens: &[String], at: usize, each: usize) -> usize {
+    let count: usize = tokens[at].parse().expect("a count");
+    at + 1 + each * count
+}
+
+/// The places of the counts of a page write: of its page, and of its records.
+fn page_counts(tokens: &[String]) -> (usize, usize) {
+    let page = after_list(tokens, 4, 1) + 1;
+    (page, after_list(tokens, page, 1))
+}
+
+/// A page write with a record whose level its place cannot hold; or one with the largest
+/// that it can, or with leading zeros.
+fn wrong_level(random: &mut Random) -> Vec<u8> {
+    let mut tokens = tokens_of(good_page_write(random));
+    let (_, at) = page_counts(&tokens);
+    let end = after_list(&tokens, at, 3);
+    let levels = [
+        "256",
+        "256",
+        "257",
+        "512",
+        "65536",
+        "4294967295",
+        "255",
+        "0255",
+        "0256",
+        "01",
+    ];
+    let level = random.one_of(&levels).to_string();
+    if at + 1 == end {
+        let slot = tokens[end].clone();
+        tokens[at] = "1".to_string();
+        tokens.splice(end..end, [slot, "0".to_string(), level]);
+    } else {
+        let record = random.below((end - at) as u64 / 3) as usize;
+        tokens[at + 3 + 3 * record] = level;
+    }
+    joined(tokens)
+}
+
+/// A page write whose count of slots or of records is not their number, among them counts
+/// whose threefold is a small number once it is wrapped at 32 bits.
+fn wrong_page_count(random: &mut Random) -> Vec<u8> {
+    let mut tokens = tokens_of(good_page_write(random));
+    let (page, records) = page_counts(&tokens);
+    let at = random.one_of(&[page, records]);
+    let count: u32 = tokens[at].parse().expect("a count");
+    let wrapped = count.wrapping_add(random.one_of(&[0x5555_5556, 0xaaaa_aaab]));
+    let other = match random.below(8) {
+        0 => count.saturating_sub(1),
+        1 => count + 1,
+        2 => count + 2,
+        3 => count + 3,
+        4 => 0,
+        5 => random.one_of(&[256, 257, 2_048, 2_049]),
+        6 => wrapped,
+        _ => u32::MAX,
+    };
+    tokens[at] = other.to_string();
+    joined(tokens)
+}
+
+/// A page call with more slots than any page has, or a page write with more records; now
+/// and then with as many as the room for a line has, or more.
+fn many_slots(random: &mut Random) -> Vec<u8> {
+    let slots = |count: usize| [vec![0, count as u32], vec![0; count]].concat();
+    let records = |count: usize| [vec![0, 0, count as u32], vec![0; 3 * count]].concat();
+    let line = |kind: u64, count: usize| match kind {
+        0 => line_text("pread", &kitchen(), &[slots(count), vec![0, 1]].concat()),
+        1 => line_text(
+            "pwrite",
+            &kitchen(),
+            &[slots(count), vec![0, 0, 5]].concat(),
+        ),
+        _ => line_text("pwrite", &kitchen(), &[records(count), vec![0, 5]].concat()),
+    };
+    let kind = random.below(3);
+    let each = if kind == 2 { " 0 0 0" } else { " 0" };
+    let most = (ROOM_FOR_LINE - line(kind, 10_000).len()) / each.len() + 10_000;
+    let count = match random.below(30) {
+        0 => most - random.below(3) as usize,
+        1 => most + 1 + random.below(3) as usize,
+        _ if kind == 2 => 255 + random.below(4) as usize,
+        _ => 2_046 + random.below(5) as usize,
+    };
+    line(kind, count).into_bytes()
+}
+
 /// A call with a space too many, or with something else at the place of a space.
 fn wrong_space(random: &mut Random) -> Vec<u8> {
-    let call = good_call(random);
+    let call = some_call(random);
     let line = match random.below(7) {
         0 => format!(" {call}"),
         1 => format!("{call} "),
@@ -147,7 +261,7 @@ fn wrong_space(random: &mut Random) -> Vec<u8> {
 /// A call with a carriage return: one at the line's end, which belongs to that end, or
 /// another, which does not.
 fn carriage_return(random: &mut Random) -> Vec<u8> {
-    let call = good_call(random);
+    let call = some_call(random);
     let line = match random.below(6) {
         0..=2 => format!("{call}\r"),
         3 => format!("{call}\r\r"),
@@ -163,7 +277,7 @@ fn carriage_return(random: &mut Random) -> Vec<u8> {
 /// A call whose last number is padded with zeros to some length; now and then to the
 /// room for a line, or past it.
 fn padded_line(random: &mut Random) -> Vec<u8> {
-    let call = good_call(random);
+    let call = some_call(random);
     let length = match random.below(40) {
         0 => ROOM_FOR_LINE - 1,
         1 => ROOM_FOR_LINE,

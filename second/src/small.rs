@@ -1,6 +1,7 @@
-//! A small family of calls with nothing left out: all sheets of up to 3 cells.
+//! A small family of calls with nothing left out: all sheets of up to 3 cells, and the
+//! page calls of two of them.
 
-use crate::asking::{call_text, Verb};
+use crate::asking::{call_text, line_text, Verb};
 use crate::making::attic;
 use crate::sheet::{admit, Sheet};
 use std::io::{self, Write};
@@ -8,11 +9,24 @@ use std::io::{self, Write};
 /// Of the admitted sheets of 3 cells and one shape, one in so many is written and read.
 const WRITTEN_AND_READ: usize = 28;
 
+/// The sheets of the page calls: n, k, l and rows. The one has 2 cells and no checks, the
+/// other 3 cells and a check.
+const PAGED: [(u32, u32, u32, &[u32]); 2] = [(2, 1, 1, &[1, 3, 3]), (3, 1, 1, &[3, 6, 7, 1])];
+
+/// What the slots of a page hold before a write: no word of either sheet.
+const HELD: [u32; 2] = [u32::MAX, 1 << 31];
+
 /// Prints the family: every list of rows of up to 2 cells is asked to be admitted; every
 /// admitted sheet of up to 3 cells is measured; the attic sheet, those of up to 2 cells
-/// and some of those of 3 are written and read in every way.
+/// and some of those of 3 are written and read in every way; two have page calls.
 pub fn print_small(mut output: impl Write) -> io::Result<()> {
     let mut lines = writes_and_reads(&attic());
+    for (n, k, l, rows) in PAGED {
+        let rows = rows.to_vec();
+        let sheet = Sheet { n, k, l, rows };
+        lines.extend(page_writes(&sheet));
+        lines.extend(page_reads(&sheet));
+    }
     for n in 1..=3 {
         for k in 1..=n {
             for l in 0..=n - k {
@@ -83,9 +97,83 @@ fn writes_and_reads(sheet: &Sheet) -> Vec<String> {
     lines
 }
 
+/// Every list of up to 2 records with slots 0 and 1, cells up to n and levels up to 2, on
+/// a page of 2 slots: slots 0 to 2, and every message and one past them. And no record,
+/// on pages of 0 and 1 slots.
+fn page_writes(sheet: &Sheet) -> Vec<String> {
+    let mut lines = Vec::new();
+    for slots in 0..=2 {
+        let lists = match slots {
+            2 => record_lists(sheet.n),
+            _ => vec![vec![]],
+        };
+        for records in lists {
+            for slot in 0..=2 {
+                for message in 0..=1 << sheet.k {
+                    let page = [&[0, slots as u32], &HELD[..slots]].concat();
+                    let count = vec![records.len() as u32 / 3];
+                    let rest = [page, count, records.clone(), vec![slot, message]];
+                    lines.push(line_text("pwrite", sheet, &rest.concat()));
+                }
+            }
+        }
+    }
+    lines
+}
+
+/// The lists of up to 2 records, each as its numbers one after the other.
+fn record_lists(n: u32) -> Vec<Vec<u32>> {
+    let mut records = Vec::new();
+    for slot in 0..=1 {
+        for cell in 0..=n {
+            records.extend((0..=2).map(|level| vec![slot, cell, level]));
+        }
+    }
+    let pairs = records.iter().flat_map(|first| {
+        let with_first = |second: &Vec<u32>| [first.clone(), second.clone()].concat();
+        records.iter().map(with_first)
+    });
+    let pairs: Vec<Vec<u32>> = pairs.collect();
+    [vec![vec![]], records, pairs].concat()
+}
+
+/// Every page of up to 2 slots whose words are at most 2^n: slots 0 to 2, radius 0 to n
+/// and 5.
+fn page_reads(sheet: &Sheet) -> Vec<String> {
+    let limit: u32 = (1 << sheet.n) + 1;
+    let mut lines = Vec::new();
+    for slots in 0..=2 {
+        for number in 0..limit.pow(slots) {
+            let page: Vec<u32> = (0..slots).map(|i| number / limit.pow(i) % limit).collect();
+            for slot in 0..=2 {
+                for radius in (0..=sheet.n).chain([5]) {
+                    let rest = [vec![0, slots], page.clone(), vec![slot, radius]];
+                    lines.push(line_text("pread", sheet, &rest.concat()));
+                }
+            }
+        }
+    }
+    lines
+}
+
 #[cfg(test)]
 mod tests {
     use super::*;
+
+    /// The sheets of the page calls are admitted, and their calls are counted another way.
+    #[test]
+    fn number_of_page_calls() {
+        for ((n, k, l, rows), lists) in PAGED.into_iter().zip([1 + 18 + 18 * 18, 1 + 24 + 24 * 24])
+        {
+            let rows = rows.to_vec();
+            let sheet = Sheet { n, k, l, rows };
+            assert!(admit(&sheet).is_ok());
+            assert_eq!(page_writes(&sheet).len(), (lists + 2) * 3 * 3);
+            let words = (1 << n) + 1;
+            let pages = 1 + words + words * words;
+            assert_eq!(page_reads(&sheet).len(), pages * 3 * (n as usize + 2));
+        }
+    }
 
     /// The admitted sheets of 3 cells, one message and one mask, counted another way:
     /// 7 for G0, 3 for H, 2 for G1 and 2 for M.
