@@ -140,6 +140,49 @@ def _():
     good(calls("admit 7 3 1 4294967295 0\nadmit 7 3 1 4294967296 0\nadmit 7 3 1 3 0 0\n"), b"unknown\n" * 3)
 
 
+@test("console: the longest page and list of records, one more of either, and a page that fills the line")
+def _():
+    most = "4294967295"
+    counted = lambda count, tokens: str(count) + (" " + tokens) * count
+    told = lambda text: text.encode() + b"\n" + WORD
+    asked = lambda text: text.encode() + b"\n" + WRITE
+    for slots, records in ((2048, 256), (2049, 256), (2048, 257), (0, 257)):
+        page = counted(slots, most)
+        line = "pwrite %s %s %s %s 7 5" % (KITCHEN, most, page, counted(records, "%s %s 255" % (most, most)))
+        written = "word 85 d 0 page 2048%s 85%s" % ((" " + most) * 7, (" " + most) * 2040)
+        good(calls(asked(line)), told(written if (slots, records) == (2048, 256) else "refused 13 page " + page))
+    for slots, wanted in ((2048, "refused 10 7"), (2049, "refused 13")):
+        good(calls(asked("pread %s %s %s 7 1" % (KITCHEN, most, counted(slots, most)))), told(wanted))
+    whole = lambda slots: "pwrite %s 0 %s 0 7 5" % (KITCHEN, counted(slots, "0"))
+    slots = 10000 + (ROOM - len(whole(10000))) // 2
+    good(calls(asked(whole(slots))), told("refused 13 page " + counted(slots, "0")))
+    good(calls(asked(whole(slots + 1))), told("unknown"))
+
+
+@test("console: page calls, answered and refused, and page lines that are no calls")
+def _():
+    text = ""
+    wanted = ""
+    for arguments, answer in (
+        ("0 3 7 8 9 1 1 0 0 1 5", "word 42 d 1 page 3 7 42 9"),
+        ("0 0 0 0 5", "refused 14 page 0"),
+        ("0 1 0 3 0 0 1 0 0 1 0 9 0 0 5", "refused 15 2 page 1 0"),
+        ("0 1 6 1 0 0 255 0 5", "refused 15 0 page 1 6"),
+        ("0 1 6 1 0 0 256 0 5", "unknown"),
+        ("0 1 6 1 1 0 256 0 5", "unknown"),
+        ("0 1 6 1 1 4294967295 255 0 5", "word 85 d 0 page 1 85"),
+        ("0 1 6 1 0 7 0 0 8", "refused 15 0 page 1 6"),
+        ("0 1 6 2 0 0 0 0 1 0 0 5", "refused 9 page 1 6"),
+        ("0 1 6 2 0 0 0 0 5", "unknown"),
+        ("0 1 6 1431655766 0 0 0 0 5", "unknown"),
+        ("0 4294967295 6 0 0 5", "unknown"),
+        ("4294967296 1 6 0 0 5", "unknown"),
+    ):
+        text += "pwrite %s %s\n" % (KITCHEN, arguments)
+        wanted += answer + "\n"
+    good(calls(text), wanted.encode())
+
+
 @test("console: lost output is status 1 and one line")
 def _():
     for how in (">/dev/full", ">&-"):
