@@ -12,10 +12,10 @@ use borrow.Author.Tests.{le-leb, lt-leb}
 use lib.Dec.{leb}
 use lib.Arith.{bin-ind}
 use lib.Pow.{pow-pos}
-use lib.Bits.{bitAnd, and-comm, xor-add-and, xor-shr, xor-comm, xor-self, xor-zero-r, xor-lt, xor-mod, xor-block, xor-shifted}
+use lib.Bits.{bitAnd, bitOr, and-comm, or-zero-l, xor-add-and, xor-shr, xor-comm, xor-self, xor-zero-r, xor-lt, xor-mod, xor-block, xor-shifted}
 use lib.Count.{ones, ones-step, ones-cat}
 use Rattle.paper.specs.Words.{cell, _⊕_}
-use Rattle.words.proofs.Cells.{by-half, parity, by-parity, and-half, and-odd, cell-and, cell-lt, cell-low, cell-low-above, ext-all}
+use Rattle.words.proofs.Cells.{by-half, parity, by-parity, and-half, and-odd, or-half, or-odd, cell-and, cell-lt, cell-low, cell-low-above, ext-all}
 
 -- ---- the lowest cell and the rest
 
@@ -196,6 +196,12 @@ pub ones-and-le : (a m : ℕ) → ones (bitAnd a m) ≤ ones m
 ones-and-le =
     bin-ind (λ (a : ℕ). (m : ℕ) → ones (bitAnd a m) ≤ ones m) (λ m. omega (arith, ones-zero))
     (λ a ih m. omega (arith, ih (m / 2), ones-step (bitAnd a m), ones-step m, and-odd a m, ap ones (and-half a m)))
+
+-- no more cells than the two words have, taken together
+pub ones-or : (a b : ℕ) → ones (bitOr a b) ≤ ones a + ones b
+ones-or =
+    bin-ind (λ (a : ℕ). (b : ℕ) → ones (bitOr a b) ≤ ones a + ones b) (λ b. omega (arith, ap ones (or-zero-l b)))
+    (λ a ih b. omega (arith, ih (b / 2), ones-step (bitOr a b), ones-step a, ones-step b, or-odd a b, ap ones (or-half a b)))
 
 pub ones-unit : (i : ℕ) → ones (2 ^ i) ≡ 1
 unfolding ones
