@@ -35,7 +35,7 @@ bare number = record { number = number; given = [] }
 abbrev pub giving : ℕ → ℕ → Reason
 giving number value = record { number = number; given = value ∷ [] }
 
--- "When the box says no", and the "new refusals" of the change requests: each reason's number, and what is given with it
+-- "When the box says no", and the "New refusals" of the change requests: each reason's number, and what is given with it
 abbrev pub reason : Refusal → Reason
 reason Shape = bare 1
 reason (Stray row) = giving 2 row
