@@ -11,3 +11,5 @@ pub mod Plate
 pub mod Demand3
 pub mod Box
 pub mod Useless
+pub mod PageOrder
+pub mod Pages

@@ -127,7 +127,7 @@ uncapped cap = (λ e. to (leb 1 cap) (leb cap mostCap) refl refl e, from (capped
     from true e (inr p) = absurd (omega (arith, capped-true cap .0 e))
 
 -- 9: "no word of the message fits"
-unchosen : (s : Sheet) (w stuck levels : ℕ)
+pub unchosen : (s : Sheet) (w stuck levels : ℕ)
     → (chosen s w (fitting s w stuck levels) ≡ refusal 9 [])
     ↔ ((d : ℕ) → d < 2 ^ s .l → fits stuck levels (wordOf s w d) ≡ false)
 unchosen s w stuck levels = (λ e d. first-all _ (2 ^ s .l) d (none (fitting s w stuck levels) e), λ h. ap (chosen s w) (none-below _ (2 ^ s .l) h))
@@ -144,14 +144,14 @@ unheard s y (missed u) tried = (λ e. cc, λ e. cc)
 module _ (s : Sheet) where
   module _ (w stuck levels : ℕ) where
     -- what is told of a write from rule 9 and from rule 8 on
-    abbrev from-9 : Told
+    abbrev pub from-9 : Told
     from-9 = chosen s w (fitting s w stuck levels)
 
     abbrev from-8 : Told
     from-8 = unlessAt (first width (misplaced (s .n) stuck levels)) 8 0 from-9
 
     -- what holds of refusal 9 and of every answer holds of what is told from rule 9 on
-    either-9 : (P : Told → Type 0) → P (refusal 9 []) → ((values : List ℕ) → P (answer values)) → P from-9
+    pub either-9 : (P : Told → Type 0) → P (refusal 9 []) → ((values : List ℕ) → P (answer values)) → P from-9
     either-9 P n v = go (fitting s w stuck levels)
       where
         go : (f : First) → P (chosen s w f)
@@ -208,12 +208,16 @@ module _ (s : Sheet) where
     either-11 : (P : Told → Type 0) → P (refusal 11 []) → ((given : List ℕ) → P (refusal 12 given)) → ((values : List ℕ) → P (answer values)) → P from-11
     either-11 P l r v = either 11 from-12 P (leb radius mostRadius) l (either-12 P r v)
 
+    -- and of a read on an admitted sheet
+    pub either-10 : (P : Told → Type 0) → ((given : List ℕ) → P (refusal 10 given)) → P (refusal 11 []) → ((given : List ℕ) → P (refusal 12 given))
+        → ((values : List ℕ) → P (answer values)) → P (readsAdmitted s y radius)
+    unfolding readsAdmitted
+    either-10 P c l r v = either-at 10 from-11 P (first width (strayCell (s .n) y)) 0 c (either-11 P l r v)
+
     -- 1 to 6
     pub read-sheet : (number : ℕ) (given : List ℕ) → number ≤ 6 → (reads s y radius ≡ refusal number given) ↔ (admits s ≡ refusal number given)
-    unfolding reads readsAdmitted
-    read-sheet =
-        sheet-told s _ (either-at 10 from-11 (λ t. ofSheet t ≡ false) (first width (strayCell (s .n) y)) 0 (λ given. refl)
-        (either-11 (λ t. ofSheet t ≡ false) refl (λ given. refl) (λ values. refl)))
+    unfolding reads
+    read-sheet = sheet-told s (readsAdmitted s y radius) (either-10 (λ t. ofSheet t ≡ false) (λ given. refl) refl (λ given. refl) (λ values. refl))
 
     -- 10: "read word has a bit at cell n or above", with "the lowest such cell"
     pub read-10 : (c : ℕ) → (reads s y radius ≡ refusal 10 (c ∷ [])) ↔ (Admitted s × (first width (strayCell (s .n) y) ≡ at c))

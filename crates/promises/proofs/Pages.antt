@@ -1,0 +1,107 @@
+-- Request 1: "What other slots hold and the records for them never change my answer; only the lengths of page and list do, through 13 and 14", and what a call changes.
+-- So stations that share a page do not meet there. Assumes nothing.
+use mathlib.Core.Path.{_≡_, refl, sym, ap, _∙_}
+use mathlib.Core.Bool.{Bool, true, false, cond}
+use mathlib.Core.List.{List, [], _∷_, _++_}
+use Prim.Native.Nat.{ℕ, _≤_, _<_}
+use borrow.Author.Tests.{le-leb, lt-ltb, ne-eqb}
+use lib.Dec.{eqb}
+use lib.ListN.{length, getD, length-set}
+use lib.Seq.{getD-set-other}
+use Rattle.paper.specs.Refusals.{Told, answer, more, refusal}
+use Rattle.paper.specs.Sheet.{Sheet}
+use Rattle.paper.specs.Page.{mostSlots, mostRecords, recordsOf, pageWrites, pageAfter, pageReads}
+use Rattle.paper.specs.declared.StuckCell.{StuckCell}
+
+-- ---- this slot's records
+
+module _ (slot : ℕ) where
+  -- those of two lists, one after the other
+  pub records-append : (rs rs′ : List StuckCell) → recordsOf slot (rs ++ rs′) ≡ recordsOf slot rs ++ recordsOf slot rs′
+  records-append [] rs′ = refl
+  records-append (r ∷ rs) rs′ = go (eqb (r .slot) slot) (records-append rs rs′)
+    where
+      go : (b : Bool) → recordsOf slot (rs ++ rs′) ≡ recordsOf slot rs ++ recordsOf slot rs′
+          → cond b (r ∷ recordsOf slot (rs ++ rs′)) (recordsOf slot (rs ++ rs′)) ≡ cond b (r ∷ recordsOf slot rs) (recordsOf slot rs) ++ recordsOf slot rs′
+      go true e = ap (λ (v : List StuckCell). r ∷ v) e
+      go false e = e
+
+  -- a record for another slot is none of them
+  pub record-other : (r : StuckCell) (rs : List StuckCell) → (r .slot ≡ slot → ⊥) → recordsOf slot (r ∷ rs) ≡ recordsOf slot rs
+  record-other r rs ne = rw (ne-eqb (r .slot) slot ne)
+
+  -- so any other record for another slot may stand in its place
+  pub other-record : (rs rs′ : List StuckCell) (r r′ : StuckCell) → (r .slot ≡ slot → ⊥) → (r′ .slot ≡ slot → ⊥)
+      → recordsOf slot (rs ++ r ∷ rs′) ≡ recordsOf slot (rs ++ r′ ∷ rs′)
+  other-record rs rs′ r r′ ne ne′ =
+      records-append rs (r ∷ rs′)
+      ∙ ap (λ (v : List StuckCell). recordsOf slot rs ++ v) (record-other r rs′ ne ∙ sym (record-other r′ rs′ ne′)) ∙ sym (records-append rs (r′ ∷ rs′))
+
+-- ---- "never change my answer"
+
+module _ (s : Sheet) (page page′ : List ℕ) (slot : ℕ) where
+  -- a write goes by its slot's records and the two lengths
+  pub write-independent : (records records′ : List StuckCell) (w : ℕ)
+      → length page ≡ length page′ → length records ≡ length records′ → recordsOf slot records ≡ recordsOf slot records′
+      → pageWrites s page records slot w ≡ pageWrites s page′ records′ slot w
+  unfolding pageWrites
+  write-independent records records′ w p q e = rw (p, q, e)
+
+  -- a read goes by what its slot holds and the page's length
+  pub read-independent : (t : ℕ) → length page ≡ length page′ → getD page slot 0 ≡ getD page′ slot 0 → pageReads s page slot t ≡ pageReads s page′ slot t
+  unfolding pageReads
+  read-independent t p e = rw (p, e)
+
+  -- "only the lengths of page and list do, through 13 and 14": past these, the lengths change nothing either
+  module _ (few : length page ≤ mostSlots) (few′ : length page′ ≤ mostSlots) (there : slot < length page) (there′ : slot < length page′) where
+    pub write-lengths : (records records′ : List StuckCell) (w : ℕ)
+        → length records ≤ mostRecords → length records′ ≤ mostRecords → recordsOf slot records ≡ recordsOf slot records′
+        → pageWrites s page records slot w ≡ pageWrites s page′ records′ slot w
+    unfolding pageWrites
+    write-lengths records records′ w q q′ e =
+        rw (
+          le-leb (length page) mostSlots few,
+          le-leb (length page′) mostSlots few′,
+          le-leb (length records) mostRecords q,
+          le-leb (length records′) mostRecords q′,
+          lt-ltb slot (length page) there,
+          lt-ltb slot (length page′) there′,
+          e,
+        )
+
+    pub read-lengths : (t : ℕ) → getD page slot 0 ≡ getD page′ slot 0 → pageReads s page slot t ≡ pageReads s page′ slot t
+    unfolding pageReads
+    read-lengths t e =
+        rw (
+          le-leb (length page) mostSlots few,
+          le-leb (length page′) mostSlots few′,
+          lt-ltb slot (length page) there,
+          lt-ltb slot (length page′) there′,
+          e,
+        )
+
+-- ---- what a write changes, whatever it told
+
+module _ (page : List ℕ) (slot : ℕ) where
+  -- "a write changes only its slot"
+  pub others-kept : (told : Told) (j : ℕ) → (j ≡ slot → ⊥) → getD (pageAfter told page slot) j 0 ≡ getD page j 0
+  others-kept (answer values) j ne = getD-set-other page slot j (getD values 0 0) 0 ne
+  others-kept (more values) j ne = refl
+  others-kept (refusal number given) j ne = refl
+
+  pub length-kept : (told : Told) → length (pageAfter told page slot) ≡ length page
+  length-kept (answer values) = length-set page slot (getD values 0 0)
+  length-kept (more values) = refl
+  length-kept (refusal number given) = refl
+
+  -- "A refused call .. changes nothing lent"
+  pub refused-kept : (told : Told) (number : ℕ) (given : List ℕ) → told ≡ refusal number given → pageAfter told page slot ≡ page
+  refused-kept told number given e = ap (λ (t : Told). pageAfter t page slot) e
+
+-- so a station's write to another slot changes no read of this one, and no write
+module _ (s : Sheet) (page : List ℕ) (j : ℕ) (told : Told) (slot : ℕ) where
+  pub read-shared : (slot ≡ j → ⊥) → (t : ℕ) → pageReads s (pageAfter told page j) slot t ≡ pageReads s page slot t
+  read-shared ne t = read-independent s (pageAfter told page j) page slot t (length-kept page j told) (others-kept page j told slot ne)
+
+  pub write-shared : (records : List StuckCell) (w : ℕ) → pageWrites s (pageAfter told page j) records slot w ≡ pageWrites s page records slot w
+  write-shared records w = write-independent s (pageAfter told page j) page slot records records w (length-kept page j told) refl refl
