@@ -12,4 +12,5 @@ pub mod Demand3
 pub mod Box
 pub mod Useless
 pub mod PageOrder
+pub mod PagePinned
 pub mod Pages

@@ -69,6 +69,13 @@ unfolding reading-back
 reading-told (Reading.Message message z tried) = refl
 reading-told (Reading.Refused why) = ap Reading.Refused (told-back why)
 
+-- so for writing and reading, whatever is told
+pub written-once : (t : Told) (a b : Written) → written a ≡ t → written b ≡ t → a ≡ b
+written-once = same written written-back written-told
+
+pub reading-once : (t : Told) (a b : Reading) → reading a ≡ t → reading b ≡ t → a ≡ b
+reading-once = same reading reading-back reading-told
+
 measuredD0-told : (a : MeasuredD0) → measuredD0-back (measuredD0 a) ≡ a
 unfolding measuredD0-back
 measuredD0-told (MeasuredD0.Distance d tried) = refl
@@ -88,10 +95,10 @@ module _ (s : Sheet) where
   admit-pinned = same admission admission-back admission-told (admits s)
 
   pub write-pinned : (message stuck levels : ℕ) (a b : Written) → written a ≡ writes s message stuck levels → written b ≡ writes s message stuck levels → a ≡ b
-  write-pinned message stuck levels = same written written-back written-told (writes s message stuck levels)
+  write-pinned message stuck levels = written-once (writes s message stuck levels)
 
   pub read-pinned : (y radius : ℕ) (a b : Reading) → reading a ≡ reads s y radius → reading b ≡ reads s y radius → a ≡ b
-  read-pinned y radius = same reading reading-back reading-told (reads s y radius)
+  read-pinned y radius = reading-once (reads s y radius)
 
   pub measure-d0-pinned : (cap : ℕ) (a b : MeasuredD0) → measuredD0 a ≡ measuresD0 s cap → measuredD0 b ≡ measuresD0 s cap → a ≡ b
   measure-d0-pinned cap = same measuredD0 measuredD0-back measuredD0-told (measuresD0 s cap)
