@@ -14,3 +14,4 @@ pub mod Useless
 pub mod PageOrder
 pub mod PagePinned
 pub mod Pages
+pub mod PageBench
