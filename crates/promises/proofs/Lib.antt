@@ -14,4 +14,7 @@ pub mod Useless
 pub mod PageOrder
 pub mod PagePinned
 pub mod Pages
+pub mod PageRecords
+pub mod PageDemands
+pub mod PageRepeats
 pub mod PageBench

@@ -4,7 +4,7 @@ use mathlib.Core.Path.{_≡_, refl, sym, ap, _∙_}
 use mathlib.Core.Bool.{Bool, true, false, cond}
 use mathlib.Core.List.{List, [], _∷_, _++_}
 use Prim.Native.Nat.{ℕ, _≤_, _<_}
-use borrow.Author.Tests.{le-leb, lt-ltb, ne-eqb}
+use borrow.Author.Tests.{le-leb, lt-ltb, eq-eqb, ne-eqb}
 use lib.Dec.{eqb}
 use lib.ListN.{length, getD, length-set}
 use lib.Seq.{getD-set-other}
@@ -25,6 +25,10 @@ module _ (slot : ℕ) where
           → cond b (r ∷ recordsOf slot (rs ++ rs′)) (recordsOf slot (rs ++ rs′)) ≡ cond b (r ∷ recordsOf slot rs) (recordsOf slot rs) ++ recordsOf slot rs′
       go true e = ap (λ (v : List StuckCell). r ∷ v) e
       go false e = e
+
+  -- a record for this slot is one
+  pub record-own : (r : StuckCell) (rs : List StuckCell) → r .slot ≡ slot → recordsOf slot (r ∷ rs) ≡ r ∷ recordsOf slot rs
+  record-own r rs e = rw (eq-eqb (r .slot) slot e)
 
   -- a record for another slot is none of them
   pub record-other : (r : StuckCell) (rs : List StuckCell) → (r .slot ≡ slot → ⊥) → recordsOf slot (r ∷ rs) ≡ recordsOf slot rs
