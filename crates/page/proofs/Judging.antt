@@ -6,13 +6,13 @@ use mathlib.Core.List.{List, []}
 use Prim.Native.Nat.{ℕ}
 use Rattle.paper.specs.Page.{paged, pageAfter}
 use Rattle.paper.specs.Refusals.{Told, answer, refused, admission, unless}
-use Rattle.paper.specs.Sheet.{Sheet}
+use Rattle.paper.specs.Sheet.{Sheet, judged}
 use Rattle.paper.specs.declared.Admission.{Admission}
 use Rattle.paper.specs.declared.Admission.the-variants as Admission
 use Rattle.paper.specs.declared.Refusal.{Refusal}
-use Rattle.rules.proofs.Stages.{Stage, passes, refuses, unless-stage, then, refused-alike, passed-alike}
+use Rattle.rules.proofs.Stages.{Stage, unless-stage, then, refused-alike, passed-alike}
 use Rattle.sheet.specs.Sound.{Sound}
-use Rattle.sheet.proofs.Verdicts.{judged-stage, past-judged, sound}
+use Rattle.sheet.proofs.Verdicts.{judged-stage, past-judged, on-admitted, sound}
 
 -- the rules of sheet and page as one chain
 paged-stage : (s : Sheet) (few : Bool) → Stage (paged s few)
@@ -41,11 +41,8 @@ module _ (s : Sheet) (few : Bool) (verdict : Admission) (e : admission verdict �
 
 -- what is told alike of a sound sheet is told alike behind the rules of sheet and page, which refuse any other
 pub alike-when-sound : (s : Sheet) (few : Bool) (a b : Told) → (Sound s → a ≡ b) → paged s few a ≡ paged s few b
-alike-when-sound s few a b h = go (paged-stage s few)
-  where
-    go : Stage (paged s few) → paged s few a ≡ paged s few b
-    go (passes p) = ap (paged s few) (h (passed-sound s few (p (answer []))))
-    go (refuses number given p) = p a ∙ sym (p b)
+unfolding paged
+alike-when-sound s few a b h = on-admitted s _ _ (λ ok. ap (λ (t : Told). judged s (unless few 13 t)) (h (sound s ok)))
 
 -- what is told by another name is what the page was left by
 pub leaves : (page : List ℕ) (slot : ℕ) {told a b : Told} {left : List ℕ} → a ≡ b → (told ≡ a) × (left ≡ pageAfter a page slot)

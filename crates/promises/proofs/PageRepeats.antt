@@ -1,7 +1,7 @@
 -- "Equal records count once": a record that stands again, anywhere later in the list, changes nothing but the places behind it,
 -- which are "from 0 among this slot's records". For request 1's records. Assumes nothing.
 use mathlib.Core.Path.{_≡_, refl, sym, ap, ap₂, _∙_}
-use mathlib.Core.Bool.{Bool, true, false, not, _&&_, _||_, true≢false, or-assoc as or-assocᵇ}
+use mathlib.Core.Bool.{Bool, true, false, not, _&&_, _||_, true≢false}
 use mathlib.Core.Logic.{_⊎_, inl, inr}
 use mathlib.Core.List.{List, [], _∷_, _++_}
 use Prim.Native.Nat.{ℕ, suc, _+_, _-_, _*_, _^_, _≤_, _<_}
@@ -12,36 +12,21 @@ use lib.Dec.{eqb, leb}
 use lib.ListN.{length, getD, take, length-append, List·getD-append}
 use lib.Seq.{take-append-le, take-append-seam, take-append-add, getD-append-seam, getD-append-add}
 use Rattle.paper.specs.First.{First, nowhere, at}
-use Rattle.paper.specs.Refusals.{Told, answer, refusal}
-use Rattle.paper.specs.Sheet.{Sheet, judged, Admitted}
+use Rattle.paper.specs.Refusals.{refusal}
+use Rattle.paper.specs.Sheet.{Sheet, Admitted}
 use Rattle.paper.specs.Writing.{writes}
 use Rattle.paper.specs.Page.{mostSlots, mostRecords, recordsOf, disagrees, breaks, noRecord, firstBroken, stuckBy, levelsBy, paged, pageWrites}
 use Rattle.paper.specs.declared.StuckCell.{StuckCell}
-use Rattle.words.proofs.Cells.{cell-or, ext-all, or-assoc}
+use Rattle.words.proofs.Cells.{cell-or, ext-all}
+use Rattle.records.proofs.Lists.{records-append, record-own, record-other, stuck-append, levels-append, disagrees-append}
 use Rattle.rules.proofs.Rules.{isRefusal, not-told}
-use Rattle.rules.proofs.Stages.{Stage, passes, refuses}
-use Rattle.sheet.proofs.Verdicts.{judged-stage}
+use Rattle.sheet.proofs.Verdicts.{on-admitted}
 use Rattle.promises.proofs.Tests.{fails}
-use Rattle.promises.proofs.Pages.{records-append, record-own, record-other}
 use Rattle.promises.proofs.PageOrder.{page-write-13, page-write-14, page-write-15}
 use Rattle.promises.proofs.PageDemands.{write-is-base}
 use Rattle.promises.proofs.PageRecords.{disagrees-when, breaks-when, broken-at, broken-nowhere, none-disagrees}
 
--- ---- what records gather to, one list after the other
-
-stuck-append : (rs rs′ : List StuckCell) → stuckBy (rs ++ rs′) ≡ bitOr (stuckBy rs) (stuckBy rs′)
-stuck-append [] rs′ = refl
-stuck-append (r ∷ rs) rs′ = ap (bitOr (2 ^ (r .cell))) (stuck-append rs rs′) ∙ sym (or-assoc (2 ^ (r .cell)) (stuckBy rs) (stuckBy rs′))
-
-levels-append : (rs rs′ : List StuckCell) → levelsBy (rs ++ rs′) ≡ bitOr (levelsBy rs) (levelsBy rs′)
-levels-append [] rs′ = refl
-levels-append (r ∷ rs) rs′ = ap (bitOr (r .level * 2 ^ (r .cell))) (levels-append rs rs′) ∙ sym (or-assoc (r .level * 2 ^ (r .cell)) (levelsBy rs) (levelsBy rs′))
-
-disagrees-append : (rs rs′ : List StuckCell) (c : StuckCell) → disagrees (rs ++ rs′) c ≡ (disagrees rs c || disagrees rs′ c)
-disagrees-append [] rs′ c = refl
-disagrees-append (r ∷ rs) rs′ c =
-    let b : Bool = eqb (r .cell) (c .cell) && not (eqb (r .level) (c .level)) in
-    ap (λ (x : Bool). b || x) (disagrees-append rs rs′ c) ∙ sym (or-assocᵇ b (disagrees rs c) (disagrees rs′ c))
+-- ---- a record that stands again
 
 -- what stands in both already adds nothing
 or-again : (x r y z : ℕ) → bitOr (bitOr x (bitOr r y)) (bitOr r z) ≡ bitOr (bitOr x (bitOr r y)) z
@@ -49,7 +34,7 @@ or-again x r y z =
     ext-all (λ i.
     rw (cell-or (bitOr x (bitOr r y)) (bitOr r z) i, cell-or (bitOr x (bitOr r y)) z i, cell-or x (bitOr r y) i, cell-or r y i, cell-or r z i) (omega arith))
 
--- ---- r stands in xs ++ r ∷ ys, and again behind it
+-- r stands in xs ++ r ∷ ys, and again behind it
 
 module _ (xs ys : List StuckCell) (r : StuckCell) where
   abbrev head : List StuckCell
@@ -195,14 +180,6 @@ module _ (slot : ℕ) (xs ys zs : List StuckCell) (r : StuckCell) where
         ap stuckBy again ∙ stuck-again us vs r ws ∙ ap stuckBy (sym once),
         ap levelsBy again ∙ levels-again us vs r ws ∙ ap levelsBy (sym once),
       )
-
--- what is told alike of an admitted sheet is told alike of any other
-on-admitted : (s : Sheet) (a b : Told) → (Admitted s → judged s a ≡ judged s b) → judged s a ≡ judged s b
-on-admitted s a b f = go (judged-stage s)
-  where
-    go : Stage (judged s) → judged s a ≡ judged s b
-    go (passes p) = f (p (answer []))
-    go (refuses number given p) = p a ∙ sym (p b)
 
 module _ (s : Sheet) (page : List ℕ) (slot w : ℕ) where
   module _ (xs ys zs : List StuckCell) (r : StuckCell) where

@@ -1,45 +1,25 @@
 -- Request 1: "What other slots hold and the records for them never change my answer; only the lengths of page and list do, through 13 and 14", and what a call changes.
 -- So stations that share a page do not meet there. Assumes nothing.
 use mathlib.Core.Path.{_≡_, refl, sym, ap, _∙_}
-use mathlib.Core.Bool.{Bool, true, false, cond}
-use mathlib.Core.List.{List, [], _∷_, _++_}
+use mathlib.Core.List.{List, _∷_, _++_}
 use Prim.Native.Nat.{ℕ, _≤_, _<_}
-use borrow.Author.Tests.{le-leb, lt-ltb, eq-eqb, ne-eqb}
-use lib.Dec.{eqb}
+use borrow.Author.Tests.{le-leb, lt-ltb}
 use lib.ListN.{length, getD, length-set}
 use lib.Seq.{getD-set-other}
 use Rattle.paper.specs.Refusals.{Told, answer, more, refusal}
 use Rattle.paper.specs.Sheet.{Sheet}
 use Rattle.paper.specs.Page.{mostSlots, mostRecords, recordsOf, pageWrites, pageAfter, pageReads}
 use Rattle.paper.specs.declared.StuckCell.{StuckCell}
+use Rattle.records.proofs.Lists.{records-append, record-other}
 
 -- ---- this slot's records
 
-module _ (slot : ℕ) where
-  -- those of two lists, one after the other
-  pub records-append : (rs rs′ : List StuckCell) → recordsOf slot (rs ++ rs′) ≡ recordsOf slot rs ++ recordsOf slot rs′
-  records-append [] rs′ = refl
-  records-append (r ∷ rs) rs′ = go (eqb (r .slot) slot) (records-append rs rs′)
-    where
-      go : (b : Bool) → recordsOf slot (rs ++ rs′) ≡ recordsOf slot rs ++ recordsOf slot rs′
-          → cond b (r ∷ recordsOf slot (rs ++ rs′)) (recordsOf slot (rs ++ rs′)) ≡ cond b (r ∷ recordsOf slot rs) (recordsOf slot rs) ++ recordsOf slot rs′
-      go true e = ap (λ (v : List StuckCell). r ∷ v) e
-      go false e = e
-
-  -- a record for this slot is one
-  pub record-own : (r : StuckCell) (rs : List StuckCell) → r .slot ≡ slot → recordsOf slot (r ∷ rs) ≡ r ∷ recordsOf slot rs
-  record-own r rs e = rw (eq-eqb (r .slot) slot e)
-
-  -- a record for another slot is none of them
-  pub record-other : (r : StuckCell) (rs : List StuckCell) → (r .slot ≡ slot → ⊥) → recordsOf slot (r ∷ rs) ≡ recordsOf slot rs
-  record-other r rs ne = rw (ne-eqb (r .slot) slot ne)
-
-  -- so any other record for another slot may stand in its place
-  pub other-record : (rs rs′ : List StuckCell) (r r′ : StuckCell) → (r .slot ≡ slot → ⊥) → (r′ .slot ≡ slot → ⊥)
-      → recordsOf slot (rs ++ r ∷ rs′) ≡ recordsOf slot (rs ++ r′ ∷ rs′)
-  other-record rs rs′ r r′ ne ne′ =
-      records-append rs (r ∷ rs′)
-      ∙ ap (λ (v : List StuckCell). recordsOf slot rs ++ v) (record-other r rs′ ne ∙ sym (record-other r′ rs′ ne′)) ∙ sym (records-append rs (r′ ∷ rs′))
+-- any other record for another slot may stand in the place of one
+pub other-record : (slot : ℕ) (rs rs′ : List StuckCell) (r r′ : StuckCell) → (r .slot ≡ slot → ⊥) → (r′ .slot ≡ slot → ⊥)
+    → recordsOf slot (rs ++ r ∷ rs′) ≡ recordsOf slot (rs ++ r′ ∷ rs′)
+other-record slot rs rs′ r r′ ne ne′ =
+    records-append slot rs (r ∷ rs′)
+    ∙ ap (λ (v : List StuckCell). recordsOf slot rs ++ v) (record-other slot r rs′ ne ∙ sym (record-other slot r′ rs′ ne′)) ∙ sym (records-append slot rs (r′ ∷ rs′))
 
 -- ---- "never change my answer"
 

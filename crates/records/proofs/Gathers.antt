@@ -2,7 +2,7 @@
 -- For `gather`, whose loop has gathered the records that it passed. Assumes nothing.
 use mathlib.Core.Path.{_≡_, refl, sym, ap, ap₂, _∙_}
 use mathlib.Core.Bool.{Bool, true, false, cond, _||_}
-use mathlib.Core.List.{List, [], _∷_, _++_}
+use mathlib.Core.List.{List, [], _∷_, _++_, append-nil}
 use Prim.Native.Nat.{ℕ, suc, _+_, _≤_, _<_, min}
 use native.Mathlib.Nat.{le-refl}
 use native.Mathlib.Numerals.{add-one}
@@ -17,22 +17,18 @@ use Rattle.paper.specs.Page.{recordsOf, breaks, noRecord, firstBroken}
 use Rattle.paper.specs.Words.{width}
 use Rattle.paper.specs.declared.StuckCell.{StuckCell}
 use Rattle.records.specs.Gather.{gatheredAt, gatherOf, spoils, stepOf}
+use Rattle.records.proofs.Lists.{records-append}
 use Rattle.records.proofs.Said.{stuck-more, levels-more, Agreed, unbroken}
 use Rattle.words.proofs.Firsts.{first-same, first-at}
 
 -- ---- one record more, behind the others
 
 own-more : (slot : ℕ) (xs : List StuckCell) (r : StuckCell) → recordsOf slot (xs ++ r ∷ []) ≡ cond (eqb (r .slot) slot) (recordsOf slot xs ++ r ∷ []) (recordsOf slot xs)
-own-more slot [] r = refl
-own-more slot (x ∷ xs) r = go (eqb (x .slot) slot) (eqb (r .slot) slot) (own-more slot xs r)
+own-more slot xs r = records-append slot xs (r ∷ []) ∙ go (eqb (r .slot) slot)
   where
-    go : (a b : Bool) → recordsOf slot (xs ++ r ∷ []) ≡ cond b (recordsOf slot xs ++ r ∷ []) (recordsOf slot xs)
-        → cond a (x ∷ recordsOf slot (xs ++ r ∷ [])) (recordsOf slot (xs ++ r ∷ []))
-        ≡ cond b (cond a (x ∷ recordsOf slot xs) (recordsOf slot xs) ++ r ∷ []) (cond a (x ∷ recordsOf slot xs) (recordsOf slot xs))
-    go true true h = ap (_∷_ x) h
-    go true false h = ap (_∷_ x) h
-    go false true h = h
-    go false false h = h
+    go : (b : Bool) → recordsOf slot xs ++ cond b (r ∷ []) [] ≡ cond b (recordsOf slot xs ++ r ∷ []) (recordsOf slot xs)
+    go true = refl
+    go false = append-nil (recordsOf slot xs)
 
 length-more : (rs : List StuckCell) (r : StuckCell) → length (rs ++ r ∷ []) ≡ suc (length rs)
 length-more rs r = length-append rs (r ∷ []) ∙ add-one (length rs)

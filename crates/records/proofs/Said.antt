@@ -18,34 +18,25 @@ use Rattle.paper.specs.Promised.{Stuck}
 use Rattle.paper.specs.Sheet.{Sheet}
 use Rattle.paper.specs.Words.{cell, weight}
 use Rattle.paper.specs.declared.StuckCell.{StuckCell}
-use Rattle.words.proofs.Cells.{cell-and, cell-lt, cell-of-0, cell-or, cell-unit, cell-unit-other, ext-all, or-assoc}
+use Rattle.records.proofs.Lists.{stuck-append, levels-append, disagrees-append}
+use Rattle.words.proofs.Cells.{cell-and, cell-lt, cell-of-0, cell-or, cell-unit, cell-unit-other, ext-all}
 use Rattle.words.proofs.Firsts.{first-all}
 use Rattle.words.proofs.Sums.{ones-or, ones-unit, ones-zero}
 
 -- ---- one record more, behind the others
 
 pub stuck-more : (rs : List StuckCell) (r : StuckCell) → stuckBy (rs ++ r ∷ []) ≡ bitOr (stuckBy rs) (2 ^ (r .cell))
-stuck-more [] r = or-comm (2 ^ (r .cell)) 0
-stuck-more (e ∷ rs) r = ap (bitOr (2 ^ (e .cell))) (stuck-more rs r) ∙ sym (or-assoc (2 ^ (e .cell)) (stuckBy rs) (2 ^ (r .cell)))
+stuck-more rs r = stuck-append rs (r ∷ []) ∙ ap (bitOr (stuckBy rs)) (or-comm (2 ^ (r .cell)) 0)
 
 pub levels-more : (rs : List StuckCell) (r : StuckCell) → levelsBy (rs ++ r ∷ []) ≡ bitOr (levelsBy rs) (r .level * 2 ^ (r .cell))
-levels-more [] r = or-comm (r .level * 2 ^ (r .cell)) 0
-levels-more (e ∷ rs) r =
-    ap (bitOr (e .level * 2 ^ (e .cell))) (levels-more rs r)
-    ∙ sym (or-assoc (e .level * 2 ^ (e .cell)) (levelsBy rs) (r .level * 2 ^ (r .cell)))
+levels-more rs r = levels-append rs (r ∷ []) ∙ ap (bitOr (levelsBy rs)) (or-comm (r .level * 2 ^ (r .cell)) 0)
 
 -- the record e names the cell of r at another level
 abbrev clash : StuckCell → StuckCell → Bool
 clash e r = eqb (e .cell) (r .cell) && not (eqb (e .level) (r .level))
 
 disagrees-more : (rs : List StuckCell) (e r : StuckCell) → disagrees (rs ++ e ∷ []) r ≡ disagrees rs r || clash e r
-disagrees-more [] e r = or-false (clash e r)
-disagrees-more (d ∷ rs) e r = go (clash d r) (disagrees-more rs e r)
-  where
-    go : (b : Bool) → disagrees (rs ++ e ∷ []) r ≡ disagrees rs r || clash e r
-        → b || disagrees (rs ++ e ∷ []) r ≡ (b || disagrees rs r) || clash e r
-    go true h = refl
-    go false h = h
+disagrees-more rs e r = disagrees-append rs (e ∷ []) r ∙ ap (λ (b : Bool). disagrees rs r || b) (or-false (clash e r))
 
 -- ---- what the records say of a cell
 

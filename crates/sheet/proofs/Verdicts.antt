@@ -23,7 +23,7 @@ use Rattle.words.proofs.Firsts.{first-all, any-all}
 use Rattle.elimination.proofs.Span.{All, Low}
 use Rattle.sheet.specs.Sound.{Shaped, Sound}
 use Rattle.rules.proofs.Rules.{isRefusal, ofSheet, not-of-sheet, not-told, past, past-at}
-use Rattle.rules.proofs.Stages.{Stage, unless-stage, unlessAt-stage, then, refused-alike, alike-refused}
+use Rattle.rules.proofs.Stages.{Stage, passes, refuses, unless-stage, unlessAt-stage, then, refused-alike, alike-refused}
 
 -- ---- an admitted sheet passes each rule
 
@@ -103,6 +103,14 @@ sheet-told s next late number given h =
 -- the code's way: the reason that admission gave is the call's answer
 pub refused-call : (s : Sheet) (why : Refusal) → refused why ≡ admits s → (next : Told) → refused why ≡ judged s next
 refused-call s why e next = sym (refused-alike (judged-stage s) (sym e) next)
+
+-- what is told alike of an admitted sheet is told alike of any other, whose refusal comes first
+pub on-admitted : (s : Sheet) (a b : Told) → (Admitted s → judged s a ≡ judged s b) → judged s a ≡ judged s b
+on-admitted s a b f = go (judged-stage s)
+  where
+    go : Stage (judged s) → judged s a ≡ judged s b
+    go (passes p) = f (p (answer []))
+    go (refuses number given p) = p a ∙ sym (p b)
 
 -- ---- and so it is sound
 
