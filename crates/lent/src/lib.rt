@@ -1,0 +1,33 @@
+// The records that an array holds, lent to a page's write: whoever has them by value needs no walk.
+ghost use mathlib.Core.Path.{_≡_};
+ghost use Prim.Native.Nat.{_+_, _≤_};
+ghost use lib.ListN.{take};
+ghost use Rattle.paper.specs.Page.{mostRecords, pageWrites, pageAfter};
+ghost use Rattle.paper.specs.Refusals.{written};
+ghost use Rattle.paper.specs.Sheet.{sheet};
+use paper::MOST_RECORDS;
+use paper::StuckCell;
+use paper::Word;
+use paper::Written;
+
+// The most records that are lent: one more than a page may have, so that too many are still refused.
+pub const ROOM_RECORDS: usize = MOST_RECORDS + 1;
+
+// `page::page_write` with the first `count` records of an array. It is walked by hand, for its `&[StuckCell]`: no branch, one call.
+pub fn page_write(
+    n: u32,
+    k: u32,
+    l: u32,
+    rows: &[Word],
+    page: &mut [Word],
+    records: [StuckCell; ROOM_RECORDS],
+    count: usize,
+    slot: u32,
+    message: Word,
+) -> Written
+    requires { ⌜ count ≤ mostRecords + 1 ⌝ }
+    ensures { λ r. ⌜ written r ≡ pageWrites (sheet n k l (now (rows .entry))) (now (page .entry)) (take count records) slot message ⌝ }
+    ensures { λ r. ⌜ now (page .exit) ≡ pageAfter (pageWrites (sheet n k l (now (rows .entry))) (now (page .entry)) (take count records) slot message) (now (page .entry)) slot ⌝ }
+{
+    page::page_write(n, k, l, rows, page, &records[..count], slot, message)
+}
