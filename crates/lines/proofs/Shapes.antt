@@ -1,12 +1,12 @@
 -- Shapes as they are read, letter by letter, and the numbers that fit them.
--- `fill` cites the first part; the second says where each number stands (`fill-stands`).
+-- `fill` cites the first parts; then comes where each number stands (`fill-stands`), and what the numbers of a record are (`record-fits`).
 use mathlib.Core.Path.{_≡_, refl, sym, ap, ap₂, _∙_, subst}
 use mathlib.Core.Bool.{Bool, true, false, cond}
 use mathlib.Core.Option.{Option, none, some}
 use mathlib.Core.List.{List, [], _∷_, _++_, append-assoc}
-use Prim.Native.Nat.{ℕ, zero, suc, _+_, _-_, _^_, _≤_, _<_}
-use native.Mathlib.Nat.{add-zero}
-use native.Mathlib.Numerals.{add-one}
+use Prim.Native.Nat.{ℕ, zero, suc, _+_, _-_, _*_, _%_, _^_, _≤_, _<_}
+use native.Mathlib.Nat.{add-zero, zero-add}
+use native.Mathlib.Numerals.{add-one, unary-clauses}
 use native.Mathlib.Decide.{decLt, ℕ-discrete}
 use native.Mathlib.Omega.{arith}
 use lib.Dec.{eqb}
@@ -18,37 +18,37 @@ use Rattle.text.specs.declared.Number.the-variants as Number
 use Rattle.text.specs.Numerals.{numeral}
 use Rattle.text.proofs.Numerals.{numeral-most}
 use Rattle.paper.specs.Words.{width}
-use Rattle.lines.specs.Shapes.{mostOf, itemsOf, itemOf, many, unrolled, joined, before, fill, stored, filled, Stands}
+use Rattle.lines.specs.Shapes.{mostOf, itemsOf, itemOf, items, unrolled, joined, before, fill, stored, filled, Fits, Stands}
 
 -- ---- the letters that are to come
 
-length-many : (n letter : ℕ) → length (many n letter) ≡ n
-length-many zero letter = refl
-length-many (suc n) letter = ap suc (length-many n letter)
+length-items : (wide : Bool) (left : ℕ) → length (items wide left) ≡ left
+length-items wide zero = refl
+length-items wide (suc left) = ap suc (length-items wide left)
 
 -- the items that are to come, and the letters
-pub unread-length : (left letter at : ℕ) (shape : List ℕ) → length (many left letter ++ drop at shape) ≡ left + (length shape - at)
-unread-length left letter at shape =
-    length-append (many left letter) (drop at shape) ∙ ap₂ (λ (a b : ℕ). a + b) (length-many left letter) (length-drop at shape)
+pub unread-length : (wide : Bool) (left at : ℕ) (shape : List ℕ) → length (items wide left ++ drop at shape) ≡ left + (length shape - at)
+unread-length wide left at shape =
+    length-append (items wide left) (drop at shape) ∙ ap₂ (λ (a b : ℕ). a + b) (length-items wide left) (length-drop at shape)
 
-module _ (left letter at : ℕ) (shape : List ℕ) where
+module _ (wide : Bool) (left at : ℕ) (shape : List ℕ) where
   -- while an item is to come the shape is not read
-  pub read-item : (left ≡ 0 → ⊥) → eqb left 0 ≡ eqb (length (many left letter ++ drop at shape)) 0
+  pub read-item : (left ≡ 0 → ⊥) → eqb left 0 ≡ eqb (length (items wide left ++ drop at shape)) 0
   read-item n =
-      let more : length (many left letter ++ drop at shape) ≡ 0 → ⊥ = λ e. n (omega (arith, unread-length left letter at shape)) in
-      ne-eqb left 0 n ∙ sym (ne-eqb (length (many left letter ++ drop at shape)) 0 more)
+      let more : length (items wide left ++ drop at shape) ≡ 0 → ⊥ = λ e. n (omega (arith, unread-length wide left at shape)) in
+      ne-eqb left 0 n ∙ sym (ne-eqb (length (items wide left ++ drop at shape)) 0 more)
 
   -- with no item to come it is read at its last letter
-  pub read-shape : left ≡ 0 → at ≤ length shape → eqb at (length shape) ≡ eqb (length (many left letter ++ drop at shape)) 0
+  pub read-shape : left ≡ 0 → at ≤ length shape → eqb at (length shape) ≡ eqb (length (items wide left ++ drop at shape)) 0
   read-shape h k = go (ℕ-discrete at (length shape))
     where
-      left-over : length (many left letter ++ drop at shape) ≡ left + (length shape - at)
-      left-over = unread-length left letter at shape
+      left-over : length (items wide left ++ drop at shape) ≡ left + (length shape - at)
+      left-over = unread-length wide left at shape
 
-      go : Dec (at ≡ length shape) → eqb at (length shape) ≡ eqb (length (many left letter ++ drop at shape)) 0
-      go (yes e) = eq-eqb at (length shape) e ∙ sym (eq-eqb (length (many left letter ++ drop at shape)) 0 (omega (arith, left-over)))
+      go : Dec (at ≡ length shape) → eqb at (length shape) ≡ eqb (length (items wide left ++ drop at shape)) 0
+      go (yes e) = eq-eqb at (length shape) e ∙ sym (eq-eqb (length (items wide left ++ drop at shape)) 0 (omega (arith, left-over)))
       go (no n) =
-          ne-eqb at (length shape) n ∙ sym (ne-eqb (length (many left letter ++ drop at shape)) 0 (λ e. n (omega (arith, left-over))))
+          ne-eqb at (length shape) n ∙ sym (ne-eqb (length (items wide left ++ drop at shape)) 0 (λ e. n (omega (arith, left-over))))
 
 -- a test for the end of a shape
 pub none-left : {b : Bool} (u : List ℕ) → b ≡ eqb (length u) 0 → b ≡ true → length u ≡ 0
@@ -60,42 +60,46 @@ some-left u e t = omega (arith, eqb-false (length u) 0 (sym e ∙ t))
 
 -- every place's most is one that a word holds
 pub most-le : (letter : ℕ) → mostOf letter ≤ 2 ^ width - 1
-most-le letter = go (eqb letter 119)
+most-le letter = go (eqb letter 119) (eqb letter 98)
   where
-    go : (b : Bool) → cond b (2 ^ width - 1) (2 ^ 32 - 1) ≤ 2 ^ width - 1
-    go true = omega arith
-    go false = omega arith
+    go : (w b : Bool) → cond w (2 ^ width - 1) (cond b (2 ^ 8 - 1) (2 ^ 32 - 1)) ≤ 2 ^ width - 1
+    go true b = omega arith
+    go false true = omega arith
+    go false false = omega arith
 
 -- the next letter is that of an item
-pub letter-item : (left letter : ℕ) (rest : List ℕ) → 0 < left → getD (many left letter ++ rest) 0 0 ≡ letter
-letter-item zero letter rest h = absurd (omega arith)
-letter-item (suc n) letter rest h = refl
+pub letter-item : (wide : Bool) (left : ℕ) (rest : List ℕ) → 0 < left → getD (items wide left ++ rest) 0 0 ≡ itemOf wide left
+letter-item wide zero rest h = absurd (omega arith)
+letter-item wide (suc n) rest h = refl
 
 -- or the next one of the shape
-pub letter-shape : (left letter at : ℕ) (shape : List ℕ) → left ≡ 0 → getD (many left letter ++ drop at shape) 0 0 ≡ getD shape at 0
-letter-shape zero letter at shape h = getD-drop at shape 0 0 ∙ ap (λ (i : ℕ). getD shape i 0) (add-zero at)
-letter-shape (suc n) letter at shape h = absurd (omega arith)
+pub letter-shape : (wide : Bool) (left at : ℕ) (shape : List ℕ) → left ≡ 0 → getD (items wide left ++ drop at shape) 0 0 ≡ getD shape at 0
+letter-shape wide zero at shape h = getD-drop at shape 0 0 ∙ ap (λ (i : ℕ). getD shape i 0) (add-zero at)
+letter-shape wide (suc n) at shape h = absurd (omega arith)
 
-item-bare : (wide : Bool) (x : ℕ) → unrolled (itemOf wide) x ≡ []
-item-bare true x = refl
-item-bare false x = refl
+item-bare : (wide : Bool) (left x : ℕ) → unrolled (itemOf wide left) x ≡ []
+item-bare true left x = refl
+item-bare false left x = go (eqb (left % 3) 1)
+  where
+    go : (b : Bool) → unrolled (cond b 98 110) x ≡ []
+    go true = refl
+    go false = refl
 
 -- behind an item there is one item less
-pub passed-item : (left : ℕ) (wide : Bool) (rest : List ℕ) (x : ℕ) → 0 < left
-    → many (left - 1) (itemOf wide) ++ rest
-    ≡ unrolled (getD (many left (itemOf wide) ++ rest) 0 0) x ++ drop 1 (many left (itemOf wide) ++ rest)
-passed-item zero wide rest x h = absurd (omega arith)
-passed-item (suc n) wide rest x h =
+pub passed-item : (wide : Bool) (left : ℕ) (rest : List ℕ) (x : ℕ) → 0 < left
+    → items wide (left - 1) ++ rest ≡ unrolled (getD (items wide left ++ rest) 0 0) x ++ drop 1 (items wide left ++ rest)
+passed-item wide zero rest x h = absurd (omega arith)
+passed-item wide (suc n) rest x h =
     let e : suc n - 1 ≡ n = omega arith in
-    ap (λ (k : ℕ). many k (itemOf wide) ++ rest) e ∙ sym (ap (λ (l : List ℕ). l ++ (many n (itemOf wide) ++ rest)) (item-bare wide x))
+    ap (λ (k : ℕ). items wide k ++ rest) e ∙ sym (ap (λ (l : List ℕ). l ++ (items wide n ++ rest)) (item-bare wide (suc n) x))
 
 -- behind a letter come its items
-pub passed-letter : (left letter at : ℕ) (shape : List ℕ) (x : ℕ) → left ≡ 0
+pub passed-letter : (wide : Bool) (left at : ℕ) (shape : List ℕ) (x : ℕ) → left ≡ 0
     → unrolled (getD shape at 0) x ++ drop (at + 1) shape
-    ≡ unrolled (getD (many left letter ++ drop at shape) 0 0) x ++ drop 1 (many left letter ++ drop at shape)
-passed-letter zero letter at shape x h =
-    ap₂ (λ (l : ℕ) (rest : List ℕ). unrolled l x ++ rest) (sym (letter-shape zero letter at shape refl)) (sym (drop-drop 1 at shape))
-passed-letter (suc n) letter at shape x h = absurd (omega arith)
+    ≡ unrolled (getD (items wide left ++ drop at shape) 0 0) x ++ drop 1 (items wide left ++ drop at shape)
+passed-letter wide zero at shape x h =
+    ap₂ (λ (l : ℕ) (rest : List ℕ). unrolled l x ++ rest) (sym (letter-shape wide zero at shape refl)) (sym (drop-drop 1 at shape))
+passed-letter wide (suc n) at shape x h = absurd (omega arith)
 
 -- ---- the numbers, one token after the other
 
@@ -203,7 +207,8 @@ stores numbers count x k = rw (add-one count) (take-suc-set numbers count x k)
 abbrev Fitted : List ℕ → List ℕ → Type 0
 Fitted [] ns = length ns ≡ 0
 Fitted (letter ∷ shape) [] = ⊥
-Fitted (letter ∷ shape) (x ∷ ns) = (x ≤ mostOf letter) × (itemsOf letter x ≤ length ns) × Fitted shape (drop (itemsOf letter x) ns)
+Fitted (letter ∷ shape) (x ∷ ns) =
+    (x ≤ mostOf letter) × (itemsOf letter x ≤ length ns) × Fits (eqb letter 76) (itemsOf letter x) 0 ns × Fitted shape (drop (itemsOf letter x) ns)
 
 joined-some : (x : ℕ) (m : Option (List ℕ)) (ns : List ℕ) → joined x m ≡ some ns → (rest : List ℕ) × (m ≡ some rest) × (ns ≡ x ∷ rest)
 joined-some x none ns e = let z : _≡_ {A = ℕ} 0 1 = cc in absurd (omega arith)
@@ -217,10 +222,17 @@ before-some (Number.Value x) f ns e = (x, refl, e)
 some-not : {x : List ℕ} → none ≡ some x → ⊥
 some-not e = let z : _≡_ {A = ℕ} 0 1 = cc in omega arith
 
-fits : (ts : List (List ℕ)) (k : ℕ) (wide : Bool) (shape ns : List ℕ) → fill (many k (itemOf wide) ++ shape) ts ≡ some ns
-    → (k ≤ length ns) × Fitted shape (drop k ns)
+fits-none : (wide : Bool) (i : ℕ) (ns : List ℕ) → Fits wide 0 i ns
+fits-none wide i ns j h = absurd (omega arith)
+
+fits-one : (wide : Bool) (left x : ℕ) (ns : List ℕ) → x ≤ mostOf (itemOf wide (suc left)) → Fits wide left 0 ns → Fits wide (suc left) 0 (x ∷ ns)
+fits-one wide left x ns h rest zero k = simp unary-clauses h
+fits-one wide left x ns h rest (suc j) k = simp unary-clauses (simp unary-clauses at (rest j (omega arith)))
+
+fits : (ts : List (List ℕ)) (k : ℕ) (wide : Bool) (shape ns : List ℕ) → fill (items wide k ++ shape) ts ≡ some ns
+    → (k ≤ length ns) × Fits wide k 0 ns × Fitted shape (drop k ns)
 unfolding fill
-fits [] zero wide [] ns e = let z : [] ≡ ns = cc in rw (← z) (omega arith, refl)
+fits [] zero wide [] ns e = let z : [] ≡ ns = cc in rw (← z) (omega arith, fits-none wide 0 [], refl)
 fits [] zero wide (l ∷ shape) ns e = absurd (some-not e)
 fits [] (suc k) wide shape ns e = absurd (some-not e)
 fits (t ∷ ts) zero wide [] ns e = absurd (some-not e)
@@ -228,13 +240,18 @@ fits (t ∷ ts) zero wide (l ∷ shape) ns e =
     let b = before-some (numeral (mostOf l) t) (λ x. fill (unrolled l x ++ shape) ts) ns e in
     let j = joined-some (b .0) (fill (unrolled l (b .0) ++ shape) ts) ns (b .2) in
     let r = fits ts (itemsOf l (b .0)) (eqb l 76) shape (j .0) (j .1) in
-    rw (j .2) (omega arith, (numeral-most (mostOf l) t (b .0) (b .1), r .0, r .1))
+    rw (j .2) (omega arith, fits-none wide 0 (b .0 ∷ j .0), (numeral-most (mostOf l) t (b .0) (b .1), r .0, r .1, r .2))
 fits (t ∷ ts) (suc k) wide shape ns e =
-    let b = before-some (numeral (mostOf (itemOf wide)) t) (λ x. fill (unrolled (itemOf wide) x ++ (many k (itemOf wide) ++ shape)) ts) ns e in
-    let j = joined-some (b .0) (fill (unrolled (itemOf wide) (b .0) ++ (many k (itemOf wide) ++ shape)) ts) ns (b .2) in
-    let trimmed = ap (λ (l : List ℕ). fill (l ++ (many k (itemOf wide) ++ shape)) ts) (item-bare wide (b .0)) in
+    let letter = itemOf wide (suc k) in
+    let b = before-some (numeral (mostOf letter) t) (λ x. fill (unrolled letter x ++ (items wide k ++ shape)) ts) ns e in
+    let j = joined-some (b .0) (fill (unrolled letter (b .0) ++ (items wide k ++ shape)) ts) ns (b .2) in
+    let trimmed = ap (λ (l : List ℕ). fill (l ++ (items wide k ++ shape)) ts) (item-bare wide (suc k) (b .0)) in
     let r = fits ts k wide shape (j .0) (sym trimmed ∙ j .1) in
-    rw (j .2) (omega arith, r .1)
+    rw (j .2) (omega arith, fits-one wide k (b .0) (j .0) (numeral-most (mostOf letter) t (b .0) (b .1)) (r .1), r .2)
+
+-- items stand where they do among all the numbers
+fits-at : (wide : Bool) (left i : ℕ) (ns : List ℕ) → Fits wide left 0 (drop i ns) → Fits wide left i ns
+fits-at wide left i ns f j h = subst (λ (x : ℕ). x ≤ mostOf (itemOf wide (left - j))) (ap (λ (k : ℕ). getD (drop i ns) k 0) (zero-add j) ∙ getD-drop i ns j 0) (f j h)
 
 places : (shape : List ℕ) (i : ℕ) (ns : List ℕ) → i ≤ length ns → Fitted shape (drop i ns) → Stands shape i ns
 places [] i ns h f = omega (arith, length-drop i ns)
@@ -248,11 +265,33 @@ places (l ∷ shape) i ns h f = go (decLt i (length ns)) (places shape (i + 1 + 
     go (yes k) rest =
         let g : Fitted (l ∷ shape) (x ∷ drop (suc i) ns) = subst (Fitted (l ∷ shape)) (drop-cons ns i 0 k) f in
         let far : i + 1 + itemsOf l x ≤ length ns = omega (arith, length-drop (suc i) ns, g .1) in
-        let e : drop (itemsOf l x) (drop (suc i) ns) ≡ drop (i + 1 + itemsOf l x) ns =
-        drop-drop (itemsOf l x) (suc i) ns ∙ ap (λ (n : ℕ). drop (n + itemsOf l x) ns) (sym (add-one i)) in
-        (k, g .0, far, rest far (subst (Fitted shape) e (g .2)))
+        let next : drop (suc i) ns ≡ drop (i + 1) ns = ap (λ (n : ℕ). drop n ns) (sym (add-one i)) in
+        let e : drop (itemsOf l x) (drop (suc i) ns) ≡ drop (i + 1 + itemsOf l x) ns = ap (drop (itemsOf l x)) next ∙ drop-drop (itemsOf l x) (i + 1) ns in
+        let held = fits-at (eqb l 76) (itemsOf l x) (i + 1) ns (subst (Fits (eqb l 76) (itemsOf l x) 0) next (g .2)) in
+        (k, g .0, far, held, rest far (subst (Fitted shape) e (g .3)))
     go (no n) rest = absurd (subst (Fitted (l ∷ shape)) (let far : length ns ≤ i = omega (arith, n) in drop-of-length-le ns far) f)
 
 -- the numbers of a line stand where its shape has them
 pub fill-stands : (shape : List ℕ) (ts : List (List ℕ)) (ns : List ℕ) → fill shape ts ≡ some ns → Stands shape 0 ns
-fill-stands shape ts ns e = places shape 0 ns (omega arith) (fits ts 0 true shape ns e .1)
+fill-stands shape ts ns e = places shape 0 ns (omega arith) (fits ts 0 true shape ns e .2)
+
+-- ---- the numbers of records
+
+number-most : (left : ℕ) → mostOf (itemOf false left) ≤ 2 ^ 32 - 1
+number-most left = go (eqb (left % 3) 1)
+  where
+    go : (b : Bool) → mostOf (cond b 98 110) ≤ 2 ^ 32 - 1
+    go true = omega arith
+    go false = omega arith
+
+level-most : (left : ℕ) → left % 3 ≡ 1 → mostOf (itemOf false left) ≡ 2 ^ 8 - 1
+level-most left e = rw (eq-eqb (left % 3) 1 e)
+
+-- of record j of a list of them, slot and cell are numbers of 32 bits, and the level is one of 8
+pub record-fits : (count i : ℕ) (ns : List ℕ) → Fits false (3 * count) i ns → (j : ℕ) → j < count
+    → (getD ns (i + 3 * j) 0 ≤ 2 ^ 32 - 1) × (getD ns (i + (3 * j + 1)) 0 ≤ 2 ^ 32 - 1) × (getD ns (i + (3 * j + 2)) 0 ≤ 2 ^ 8 - 1)
+record-fits count i ns f j h = (
+  omega (arith, f (3 * j) (omega arith), number-most (3 * count - 3 * j)),
+  omega (arith, f (3 * j + 1) (omega arith), number-most (3 * count - (3 * j + 1))),
+  omega (arith, f (3 * j + 2) (omega arith), level-most (3 * count - (3 * j + 2)) (omega arith)),
+)

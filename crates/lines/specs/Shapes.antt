@@ -3,7 +3,7 @@ use mathlib.Core.Path.{_≡_}
 use mathlib.Core.Bool.{Bool, cond}
 use mathlib.Core.Option.{Option, none, some}
 use mathlib.Core.List.{List, [], _∷_, _++_}
-use Prim.Native.Nat.{ℕ, zero, suc, _+_, _-_, _*_, _^_, _≤_, _<_}
+use Prim.Native.Nat.{ℕ, zero, suc, _+_, _-_, _*_, _%_, _^_, _≤_, _<_}
 use lib.Dec.{eqb}
 use lib.ListN.{length, take, drop, getD, set}
 use Rattle.text.specs.declared.Number.{Number}
@@ -14,26 +14,26 @@ use Rattle.lines.specs.declared.shape.Counted.{Counted}
 use Rattle.lines.specs.declared.shape.Counted.the-variants as Counted
 use Rattle.lines.specs.declared.shape.Cursor.{Cursor}
 
--- the most that the place of a letter holds: `w` (119) a word, any other letter 32 bits
+-- the most that the place of a letter holds: `w` (119) a word, `b` (98) 8 bits, any other letter 32 bits
 abbrev pub mostOf : ℕ → ℕ
-mostOf letter = cond (eqb letter 119) (2 ^ width - 1) (2 ^ 32 - 1)
+mostOf letter = cond (eqb letter 119) (2 ^ width - 1) (cond (eqb letter 98) (2 ^ 8 - 1) (2 ^ 32 - 1))
 
 -- how many items follow the number at a letter: `L` (76) as many, `R` (82) three for each, any other none
 abbrev pub itemsOf : ℕ → ℕ → ℕ
 itemsOf letter x = cond (eqb letter 76) x (cond (eqb letter 82) (3 * x) 0)
 
--- the letter of an item: a word, or a number
-abbrev pub itemOf : Bool → ℕ
-itemOf wide = cond wide 119 110
+-- the letter of an item, with as many left as are to come from it on: a word, or a number of a record, whose third has 8 bits
+abbrev pub itemOf : Bool → ℕ → ℕ
+itemOf wide left = cond wide 119 (cond (eqb (left % 3) 1) 98 110)
 
--- a letter again and again
-abbrev pub many : ℕ → ℕ → List ℕ
-many zero letter = []
-many (suc n) letter = letter ∷ many n letter
+-- the letters of the items that are left
+abbrev pub items : Bool → ℕ → List ℕ
+items wide zero = []
+items wide (suc left) = itemOf wide (suc left) ∷ items wide left
 
--- the letters of the items: words behind `L`
+-- the letters of the items behind a letter: words behind `L`
 abbrev pub unrolled : ℕ → ℕ → List ℕ
-unrolled letter x = many (itemsOf letter x) (itemOf (eqb letter 76))
+unrolled letter x = items (eqb letter 76) (itemsOf letter x)
 
 -- a number in front of numbers
 abbrev pub joined : ℕ → Option (List ℕ) → Option (List ℕ)
@@ -65,11 +65,16 @@ filled i room [] (t ∷ ts) = room
 filled i room (letter ∷ shape) (t ∷ ts) =
     stored (numeral (mostOf letter) t) i room (λ x next. filled (i + 1) next (unrolled letter x ++ shape) ts)
 
--- numbers that stand where a shape has them, the first of them at place i: each is there, its place holds it, and so are its items
+-- items of which each is one that its place holds, the first of them at place i
+abbrev pub Fits : Bool → ℕ → ℕ → List ℕ → Type 0
+Fits wide left i ns = (j : ℕ) → j < left → getD ns (i + j) 0 ≤ mostOf (itemOf wide (left - j))
+
+-- numbers that stand where a shape has them, the first of them at place i: each is there, its place holds it, and so it is with its items
 abbrev pub Stands : List ℕ → ℕ → List ℕ → Type 0
 Stands [] i ns = i ≡ length ns
 Stands (letter ∷ shape) i ns =
     (i < length ns) × (getD ns i 0 ≤ mostOf letter) × (i + 1 + itemsOf letter (getD ns i 0) ≤ length ns)
+    × Fits (eqb letter 76) (itemsOf letter (getD ns i 0)) (i + 1) ns
     × Stands shape (i + 1 + itemsOf letter (getD ns i 0)) ns
 
 -- ---- what the code's values mean
@@ -86,4 +91,4 @@ held Counted.None = 0
 
 -- the letters that are to come
 abbrev pub unread : Cursor → List ℕ → List ℕ
-unread c shape = many (c .left) (itemOf (c .wide)) ++ drop (c .at) shape
+unread c shape = items (c .wide) (c .left) ++ drop (c .at) shape

@@ -1,11 +1,12 @@
-// The numbers of a line, against a shape: `n` a number of 32 bits, `w` a word, `L` a count and as many words, `R` a count and three numbers for each.
+// The numbers of a line, against a shape: `n` a number of 32 bits, `b` one of 8, `w` a word, `L` a count and as many words, `R` a count and three numbers for each,
+// the third of 8 bits.
 ghost use mathlib.Core.Path.{_≡_};
 ghost use Prim.Native.Nat.{_+_, _*_, _≤_, _<_};
 ghost use lib.Dec.{eqb};
 ghost use lib.ListN.{length, getD, drop};
 ghost use mathlib.Core.List.{_++_};
 ghost use Rattle.text.specs.Tokens.{cut};
-ghost use Rattle.lines.specs.Shapes.{mostOf, itemsOf, unrolled, filled, counted, held, unread};
+ghost use Rattle.lines.specs.Shapes.{mostOf, itemsOf, itemOf, unrolled, filled, counted, held, unread};
 ghost use Rattle.lines.specs.Shapes.{fill as Shapes·fill};
 use paper::WIDTH;
 use paper::Word;
@@ -19,7 +20,10 @@ const MOST_WORD: u64 = u64::MAX >> (64 - WIDTH);
 // The most that 32 bits hold.
 const MOST_NUMBER: u64 = 4294967295;
 
-// Where a shape is read: `left` items of a list are to come, words or numbers, and then the letters from `at` on.
+// The most that 8 bits hold.
+const MOST_BYTE: u64 = 255;
+
+// Where a shape is read: `left` items of a list are to come, words or the numbers of records, and then the letters from `at` on.
 struct Cursor {
     at: usize,
     left: u64,
@@ -37,10 +41,12 @@ fn most_of(letter: u8) -> u64
     ensures { λ r. ⌜ r ≡ mostOf letter ⌝ }
 {
     if letter == b'w' {
-        MOST_WORD
-    } else {
-        MOST_NUMBER
+        return MOST_WORD;
     }
+    if letter == b'b' {
+        return MOST_BYTE;
+    }
+    MOST_NUMBER
 }
 
 // How many items follow the number at a letter.
@@ -65,6 +71,19 @@ fn is_read(shape: &[u8], c: Cursor) -> bool
     c.left == 0 && c.at == shape.len()
 }
 
+// The letter of an item, of as many as are left.
+fn item_of(wide: bool, left: u64) -> u8
+    ensures { λ r. ⌜ r ≡ itemOf wide left ⌝ }
+{
+    if wide {
+        return b'w';
+    }
+    if left % 3 == 1 {
+        return b'b';
+    }
+    b'n'
+}
+
 // The letter of the next number.
 fn letter_of(shape: &[u8], c: Cursor) -> u8
     requires { ⌜ c .at ≤ length (now shape) ⌝ }
@@ -72,7 +91,7 @@ fn letter_of(shape: &[u8], c: Cursor) -> u8
     ensures { λ r. ⌜ r ≡ getD (unread c (now (shape .entry))) 0 0 ⌝ }
 {
     if c.left > 0 {
-        return if c.wide { b'w' } else { b'n' };
+        return item_of(c.wide, c.left);
     }
     let at = c.at;
     shape[at]
