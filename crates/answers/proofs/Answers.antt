@@ -1,4 +1,4 @@
--- Labels with values, one after the other, and the values of what was told.
+-- Labels with values, one after the other, the values of what was told, and the numbers of a list.
 -- The functions' proofs cite them.
 use mathlib.Core.Path.{_≡_, refl, sym, ap, ap₂, _∙_}
 use mathlib.Core.List.{List, [], _∷_, _++_, append-assoc}
@@ -13,7 +13,7 @@ use Rattle.text.specs.Puts.{decimal}
 use Rattle.text.proofs.Tokens.{token-upTo, take-least}
 use Rattle.paper.specs.Refusals.{refusal}
 use Rattle.told.specs.Telling.{toldBy}
-use Rattle.answers.specs.Answers.{labelled, said}
+use Rattle.answers.specs.Answers.{labelled, said, spaced}
 
 -- behind a place past the end there is nothing
 drop-least : (n : ℕ) (xs : List ℕ) → drop n xs ≡ drop (min (length xs) n) xs
@@ -77,3 +77,16 @@ pub told-refused : (kind number : ℕ) (values : List ℕ) → 1 < kind → told
 told-refused zero number values h = absurd (omega arith)
 told-refused (suc zero) number values h = absurd (omega arith)
 told-refused (suc (suc kind)) number values h = refl
+
+-- ---- lists
+
+-- a number behind its space
+pub spaced-turn : (xs : List ℕ) (i : ℕ) → i < length xs → spaced (drop i xs) ≡ ((32 ∷ []) ++ decimal (getD xs i 0)) ++ spaced (drop (i + 1) xs)
+unfolding spaced
+spaced-turn xs i h =
+    ap spaced (drop-cons xs i 0 h) ∙ ap (λ (k : ℕ). 32 ∷ (decimal (getD xs i 0) ++ spaced (drop k xs))) (sym (add-one i))
+
+-- no number is left
+pub spaced-end : (xs : List ℕ) (i : ℕ) → length xs ≤ i → spaced (drop i xs) ≡ []
+unfolding spaced
+spaced-end xs i h = ap spaced (drop-of-length-le xs h)

@@ -1,3 +1,3 @@
--- The laws of labels.
+-- The laws of labels and lists.
 -- The functions' proofs cite them.
 pub mod Answers

@@ -1,4 +1,4 @@
--- Answers: what a call told, behind the labels of its verb.
+-- Answers: what a call told, behind the labels of its verb, and lists behind their names.
 use mathlib.Core.List.{List, [], _∷_, _++_}
 use Prim.Native.Nat.{ℕ, suc}
 use lib.ListN.{length, drop}
@@ -23,3 +23,12 @@ abbrev pub spoken : List ℕ → Told → List ℕ
 spoken labels (answer ns) = said labels ns
 spoken labels (more ns) = said (bytes "more tried | radius ") ns
 spoken labels (refusal number place) = said (bytes "refused | ") (number ∷ place)
+
+-- numbers, each behind a space (32)
+unfoldable pub spaced : List ℕ → List ℕ
+spaced [] = []
+spaced (x ∷ xs) = 32 ∷ (decimal x ++ spaced xs)
+
+-- "LIST count x1 .. xcount", behind its name
+abbrev pub listed : List ℕ → List ℕ → List ℕ
+listed name xs = name ++ (decimal (length xs) ++ spaced xs)

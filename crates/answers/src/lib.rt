@@ -1,9 +1,10 @@
-// The text of an answer: what a call told, behind labels, put into a room. Knows no verb.
+// The text of an answer: what a call told, behind labels, and lists behind their names, put into a room. Knows no verb.
 ghost use Prim.Native.Nat.{_+_, _*_, _≤_};
 ghost use lib.ListN.{length};
 ghost use Rattle.text.specs.Puts.{Put};
 ghost use Rattle.told.specs.Telling.{tells};
-ghost use Rattle.answers.specs.Answers.{said, labelled, spoken};
+ghost use Rattle.answers.specs.Answers.{said, labelled, spoken, spaced, listed};
+use paper::Word;
 use text::end_of;
 use text::put;
 use text::put_number;
@@ -57,4 +58,31 @@ pub fn say(out: &mut [u8], at: usize, labels: &[u8], t: Numbers) -> usize
         return say_labels(out, at, b"more tried | radius ", &values[1..end]);
     }
     say_labels(out, at, b"refused | ", &values[..end])
+}
+
+// Puts numbers, each behind a space.
+fn say_items(out: &mut [u8], at: usize, xs: &[Word]) -> usize
+    requires { ⌜ at + 21 * length (now xs) ≤ length (now out) ⌝ }
+    ensures { λ r. ⌜ Put (now (out .entry)) at (spaced (now (xs .entry))) r (now (out .exit)) ⌝ }
+    ensures { λ r. ⌜ r ≤ at + 21 * length (now (xs .entry)) ⌝ }
+{
+    let mut to = at;
+    let mut i = 0;
+    while i < xs.len() {
+        let next = put(out, to, b" ");
+        to = put_number(out, next, xs[i] as u64);
+        i += 1;
+    }
+    to
+}
+
+// Puts a list behind its name: how many there are, and each.
+pub fn say_list(out: &mut [u8], at: usize, name: &[u8], xs: &[Word]) -> usize
+    requires { ⌜ at + length (now name) + 20 + 21 * length (now xs) ≤ length (now out) ⌝ }
+    ensures { λ r. ⌜ Put (now (out .entry)) at (listed (now (name .entry)) (now (xs .entry))) r (now (out .exit)) ⌝ }
+    ensures { λ r. ⌜ r ≤ at + length (now (name .entry)) + 20 + 21 * length (now (xs .entry)) ⌝ }
+{
+    let named = put(out, at, name);
+    let counted = put_number(out, named, xs.len() as u64);
+    say_items(out, counted, xs)
 }
