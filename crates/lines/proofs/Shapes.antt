@@ -1,5 +1,5 @@
 -- Shapes as they are read, letter by letter, and the numbers that fit them.
--- `fill` cites the first parts; then comes where each number stands (`fill-stands`), and what the numbers of a record are (`record-fits`).
+-- `fill` cites the first parts; then comes where each number stands (`fill-stands`), and what the numbers of a record are (`records-fit`).
 use mathlib.Core.Path.{_≡_, refl, sym, ap, ap₂, _∙_, subst}
 use mathlib.Core.Bool.{Bool, true, false, cond}
 use mathlib.Core.Option.{Option, none, some}
@@ -18,7 +18,7 @@ use Rattle.text.specs.declared.Number.the-variants as Number
 use Rattle.text.specs.Numerals.{numeral}
 use Rattle.text.proofs.Numerals.{numeral-most}
 use Rattle.paper.specs.Words.{width}
-use Rattle.lines.specs.Shapes.{mostOf, itemsOf, itemOf, items, unrolled, joined, before, fill, stored, filled, Fits, Stands}
+use Rattle.lines.specs.Shapes.{mostOf, itemsOf, nextOf, itemOf, items, unrolled, joined, before, fill, stored, filled, Fits, Records, Stands}
 
 -- ---- the letters that are to come
 
@@ -253,20 +253,29 @@ fits (t ∷ ts) (suc k) wide shape ns e =
 fits-at : (wide : Bool) (left i : ℕ) (ns : List ℕ) → Fits wide left 0 (drop i ns) → Fits wide left i ns
 fits-at wide left i ns f j h = subst (λ (x : ℕ). x ≤ mostOf (itemOf wide (left - j))) (ap (λ (k : ℕ). getD (drop i ns) k 0) (zero-add j) ∙ getD-drop i ns j 0) (f j h)
 
+next-of : (letter i x : ℕ) → i + 1 + itemsOf letter x ≡ nextOf letter i x
+next-of letter i x = go (eqb letter 76) (eqb letter 82)
+  where
+    go : (l r : Bool) → i + 1 + cond l x (cond r (3 * x) 0) ≡ cond l (i + 1 + x) (cond r (i + 1 + 3 * x) (i + 1))
+    go true r = refl
+    go false true = refl
+    go false false = add-zero (i + 1)
+
 places : (shape : List ℕ) (i : ℕ) (ns : List ℕ) → i ≤ length ns → Fitted shape (drop i ns) → Stands shape i ns
 places [] i ns h f = omega (arith, length-drop i ns)
-places (l ∷ shape) i ns h f = go (decLt i (length ns)) (places shape (i + 1 + itemsOf l (getD ns i 0)) ns)
+places (l ∷ shape) i ns h f = go (decLt i (length ns)) (places shape (nextOf l i (getD ns i 0)) ns)
   where
     x : ℕ
     x = getD ns i 0
 
-    go : Dec (i < length ns) → (i + 1 + itemsOf l x ≤ length ns → Fitted shape (drop (i + 1 + itemsOf l x) ns) → Stands shape (i + 1 + itemsOf l x) ns)
+    go : Dec (i < length ns) → (nextOf l i x ≤ length ns → Fitted shape (drop (nextOf l i x) ns) → Stands shape (nextOf l i x) ns)
         → Stands (l ∷ shape) i ns
     go (yes k) rest =
         let g : Fitted (l ∷ shape) (x ∷ drop (suc i) ns) = subst (Fitted (l ∷ shape)) (drop-cons ns i 0 k) f in
-        let far : i + 1 + itemsOf l x ≤ length ns = omega (arith, length-drop (suc i) ns, g .1) in
+        let far : nextOf l i x ≤ length ns = omega (arith, length-drop (suc i) ns, g .1, next-of l i x) in
         let next : drop (suc i) ns ≡ drop (i + 1) ns = ap (λ (n : ℕ). drop n ns) (sym (add-one i)) in
-        let e : drop (itemsOf l x) (drop (suc i) ns) ≡ drop (i + 1 + itemsOf l x) ns = ap (drop (itemsOf l x)) next ∙ drop-drop (itemsOf l x) (i + 1) ns in
+        let e : drop (itemsOf l x) (drop (suc i) ns) ≡ drop (nextOf l i x) ns =
+        ap (drop (itemsOf l x)) next ∙ drop-drop (itemsOf l x) (i + 1) ns ∙ ap (λ (n : ℕ). drop n ns) (next-of l i x) in
         let held = fits-at (eqb l 76) (itemsOf l x) (i + 1) ns (subst (Fits (eqb l 76) (itemsOf l x) 0) next (g .2)) in
         (k, g .0, far, held, rest far (subst (Fitted shape) e (g .3)))
     go (no n) rest = absurd (subst (Fitted (l ∷ shape)) (let far : length ns ≤ i = omega (arith, n) in drop-of-length-le ns far) f)
@@ -287,11 +296,13 @@ number-most left = go (eqb (left % 3) 1)
 level-most : (left : ℕ) → left % 3 ≡ 1 → mostOf (itemOf false left) ≡ 2 ^ 8 - 1
 level-most left e = rw (eq-eqb (left % 3) 1 e)
 
--- of record j of a list of them, slot and cell are numbers of 32 bits, and the level is one of 8
-pub record-fits : (count i : ℕ) (ns : List ℕ) → Fits false (3 * count) i ns → (j : ℕ) → j < count
-    → (getD ns (i + 3 * j) 0 ≤ 2 ^ 32 - 1) × (getD ns (i + (3 * j + 1)) 0 ≤ 2 ^ 32 - 1) × (getD ns (i + (3 * j + 2)) 0 ≤ 2 ^ 8 - 1)
-record-fits count i ns f j h = (
+at-item : (i a b : ℕ) (ns : List ℕ) → getD ns (i + (a + b)) 0 ≡ getD ns (i + a + b) 0
+at-item i a b ns = ap (λ (k : ℕ). getD ns k 0) (let e : i + (a + b) ≡ i + a + b = omega arith in e)
+
+-- what the places of the items of records hold, record by record
+pub records-fit : (count i : ℕ) (ns : List ℕ) → Fits false (3 * count) i ns → Records count i ns
+records-fit count i ns f j h = (
   omega (arith, f (3 * j) (omega arith), number-most (3 * count - 3 * j)),
-  omega (arith, f (3 * j + 1) (omega arith), number-most (3 * count - (3 * j + 1))),
-  omega (arith, f (3 * j + 2) (omega arith), level-most (3 * count - (3 * j + 2)) (omega arith)),
+  omega (arith, f (3 * j + 1) (omega arith), number-most (3 * count - (3 * j + 1)), at-item i (3 * j) 1 ns),
+  omega (arith, f (3 * j + 2) (omega arith), level-most (3 * count - (3 * j + 2)) (omega arith), at-item i (3 * j) 2 ns),
 )

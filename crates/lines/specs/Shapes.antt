@@ -22,6 +22,10 @@ mostOf letter = cond (eqb letter 119) (2 ^ width - 1) (cond (eqb letter 98) (2 ^
 abbrev pub itemsOf : ℕ → ℕ → ℕ
 itemsOf letter x = cond (eqb letter 76) x (cond (eqb letter 82) (3 * x) 0)
 
+-- the place behind a letter's number, x at place i, and its items
+abbrev pub nextOf : ℕ → ℕ → ℕ → ℕ
+nextOf letter i x = cond (eqb letter 76) (i + 1 + x) (cond (eqb letter 82) (i + 1 + 3 * x) (i + 1))
+
 -- the letter of an item, with as many left as are to come from it on: a word, or a number of a record, whose third has 8 bits
 abbrev pub itemOf : Bool → ℕ → ℕ
 itemOf wide left = cond wide 119 (cond (eqb (left % 3) 1) 98 110)
@@ -69,13 +73,18 @@ filled i room (letter ∷ shape) (t ∷ ts) =
 abbrev pub Fits : Bool → ℕ → ℕ → List ℕ → Type 0
 Fits wide left i ns = (j : ℕ) → j < left → getD ns (i + j) 0 ≤ mostOf (itemOf wide (left - j))
 
+-- the same of records: slot and cell have 32 bits, and the level 8
+abbrev pub Records : ℕ → ℕ → List ℕ → Type 0
+Records count i ns =
+    (j : ℕ) → j < count
+    → (getD ns (i + 3 * j) 0 ≤ 2 ^ 32 - 1) × (getD ns (i + 3 * j + 1) 0 ≤ 2 ^ 32 - 1) × (getD ns (i + 3 * j + 2) 0 ≤ 2 ^ 8 - 1)
+
 -- numbers that stand where a shape has them, the first of them at place i: each is there, its place holds it, and so it is with its items
 abbrev pub Stands : List ℕ → ℕ → List ℕ → Type 0
 Stands [] i ns = i ≡ length ns
 Stands (letter ∷ shape) i ns =
-    (i < length ns) × (getD ns i 0 ≤ mostOf letter) × (i + 1 + itemsOf letter (getD ns i 0) ≤ length ns)
-    × Fits (eqb letter 76) (itemsOf letter (getD ns i 0)) (i + 1) ns
-    × Stands shape (i + 1 + itemsOf letter (getD ns i 0)) ns
+    (i < length ns) × (getD ns i 0 ≤ mostOf letter) × (nextOf letter i (getD ns i 0) ≤ length ns)
+    × Fits (eqb letter 76) (itemsOf letter (getD ns i 0)) (i + 1) ns × Stands shape (nextOf letter i (getD ns i 0)) ns
 
 -- ---- what the code's values mean
 

@@ -1,7 +1,7 @@
 -- `say_items` meets its contract: the text that is put and that of the numbers that are left are the whole.
 -- It is one loop for every list of an answer.
 use mathlib.Core.Path.{_≡_, refl, ap, _∙_}
-use mathlib.Core.List.{List, [], _∷_, _++_}
+use mathlib.Core.List.{List, _++_}
 use Prim.Native.Nat.{ℕ, _+_, _-_, _*_, _≤_}
 use borrow.Author.Needs.{needs}
 use native.Mathlib.Omega.{arith}
