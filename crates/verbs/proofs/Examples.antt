@@ -1,17 +1,20 @@
 -- Lines and their answers, computed: what the definitions say of an example is what is written down.
--- They show a verb's labels, a refusal with its place, and a number that its place does not hold.
+-- They show a verb's labels, a refusal with its place, a page behind an answer, and a number that its place does not hold.
 use mathlib.Core.Path.{_≡_, refl}
 use lib.Count.{ones}
 use Rattle.paper.specs.Words.{sum}
 use Rattle.paper.specs.Sheet.{judged}
 use Rattle.paper.specs.Writing.{writes}
+use Rattle.paper.specs.First.{first}
+use Rattle.paper.specs.Page.{firstBroken, paged, slotWrites, pageWrites}
 use Rattle.text.specs.Bytes.{bytes}
 use Rattle.text.specs.Tokens.{cut, same, upTo}
 use Rattle.text.specs.Numerals.{numeral, valued}
 use Rattle.text.specs.Puts.{digitsOf}
 use Rattle.lines.specs.Lines.{asked, comes, spelled, lookup}
 use Rattle.lines.specs.Shapes.{fill}
-use Rattle.answers.specs.Answers.{labelled}
+use Rattle.answers.specs.Answers.{labelled, spaced}
+use Rattle.pageverbs.specs.Pages.{recordsFrom}
 use Rattle.verbs.specs.Replies.{table, reply}
 
 word : reply (asked table (bytes "write 3 1 2 4 1 3 5 7 1 6 2")) ≡ bytes "word 2 d 1\n"
@@ -21,6 +24,10 @@ word = refl
 place : reply (asked table (bytes "write 3 1 2 4 1 3 5 7 1 1 2")) ≡ bytes "refused 8 1\n"
 unfolding cut asked comes spelled lookup same fill numeral valued judged writes labelled upTo digitsOf ones sum
 place = refl
+
+page : reply (asked table (bytes "pwrite 3 1 2 4 1 3 5 7 9 2 0 7 1 0 1 1 0 1")) ≡ bytes "word 2 d 1 page 2 2 7\n"
+unfolding cut asked comes spelled lookup same fill numeral valued judged paged pageWrites slotWrites firstBroken first recordsFrom labelled spaced upTo digitsOf ones sum
+page = refl
 
 over : reply (asked table (bytes "write 3 1 2 4 1 3 5 7 1 4294967296 0")) ≡ bytes "unknown\n"
 unfolding cut asked comes spelled lookup same fill numeral valued

@@ -1,7 +1,10 @@
-// The verbs of the console: their names and shapes in the table of `ask`, the call behind each, and its labels in the arms of `reply`.
+// The verbs of the console: their names and shapes in the table of `ask`, the call behind each, and its labels in the arms of `reply`. Those that lend a page are
+// functions of `pageverbs`.
 use answers::say;
 use lines::Line;
 use lines::parse;
+use pageverbs::pread;
+use pageverbs::pwrite;
 use paper::Word;
 use told::Numbers;
 use told::of_admission;
@@ -20,9 +23,10 @@ ghost use Rattle.text.specs.Bytes.{bytes};
 ghost use Rattle.text.specs.Tokens.{cut};
 ghost use Rattle.text.specs.Puts.{Put};
 ghost use Rattle.told.specs.Telling.{tells};
+ghost use Rattle.lines.specs.Arguments.{sheetIn, arg};
 ghost use Rattle.lines.specs.Shapes.{Stands};
 ghost use Rattle.lines.specs.Lines.{asked, askedIn, meant, used, shapeAt, roomLine};
-ghost use Rattle.verbs.specs.Replies.{table, sheetIn, arg, replied, roomReply};
+ghost use Rattle.verbs.specs.Replies.{table, replied, roomReply};
 
 // `admit SHEET`.
 fn admit(ns: &[Word]) -> Numbers
@@ -90,6 +94,8 @@ pub fn reply(verb: usize, ns: &[Word], out: &mut [u8]) -> usize
         2 => say(out, 0, b"message | z | tried ", read(ns)),
         3 => say(out, 0, b"distance | tried ", d0(ns)),
         4 => say(out, 0, b"distance | tried | radius ", d1(ns)),
+        5 => pwrite(ns, out),
+        6 => say(out, 0, b"message | z | tried ", pread(ns)),
         _ => 0,
     }
 }
@@ -103,7 +109,7 @@ pub fn ask(line: &[u8], ns: &mut [Word]) -> Line
 {
     parse(
         line,
-        b"admit nnnL write nnnLwww read nnnLwn d0 nnnLn d1 nnnLn",
+        b"admit nnnL write nnnLwww read nnnLwn d0 nnnLn d1 nnnLn pwrite nnnLnLRnw pread nnnLnLnn",
         ns,
     )
 }

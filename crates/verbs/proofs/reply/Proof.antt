@@ -2,7 +2,7 @@
 -- A verb adds a need of its call and an answer here, of a line or two each.
 use mathlib.Core.Path.{_≡_, sym, ap, _∙_, subst}
 use mathlib.Core.List.{List, []}
-use Prim.Native.Nat.{ℕ, _≤_}
+use Prim.Native.Nat.{ℕ, suc, _≤_}
 use borrow.Author.Needs.{needs}
 use native.Mathlib.Omega.{arith}
 use lib.ListN.{List·getD-eq-default}
@@ -44,6 +44,16 @@ d1-requires : tie.Need-d1-requires
 unfolding cut
 d1-requires c κs = placed (c .before .before .before .before .before) 4 (omega arith)
 
+pwrite-requires : tie.Need-pwrite-requires
+unfolding cut
+pwrite-requires c κs =
+    let c4 = c .before .before .before .before in
+    (placed (c4) 5 (omega arith), omega (arith, c4 .pre .1))
+
+pread-requires : tie.Need-pread-requires
+unfolding cut
+pread-requires c κs = placed (c .before .before .before .before .before) 6 (omega arith)
+
 returns : tie.Need-returns
 returns c =
     let c3 = c .before .before .before in
@@ -81,8 +91,29 @@ returns-5 c =
 
 returns-6 : tie.Need-returns-6
 returns-6 c =
+    let p = c .before .before .pwrite .ensures in
+    (put-text (is (c .before .before .before .before .before .before .before) 5 (omega arith)) (p .0), omega (arith, p .1))
+
+returns-7 : tie.Need-returns-7
+returns-7 c =
     let c3 = c .before .before .before in
-    (put-text (sym (ap (λ (f : List ℕ → List ℕ). f (c3 .args .ns .now)) (List·getD-eq-default verbs (λ ns. []) (let far : 5 ≤ c3 .args .verb = omega arith in far)))) (put-nothing (c3 .args .out .now) 0), omega arith)
+    let c9 = c3 .before .before .before .before .before .before in
+    let s = c .before .before .say6 in
+    (put-text (ap (spoken (bytes "message | z | tried ")) (c3 .pread .ensures) ∙ is (c9) 6 (omega arith)) (s .ensures .0), omega (arith, s .ensures .1))
+
+-- one verb of the table after the other is passed by
+pass : (k v : ℕ) → k ≤ v → (v ≡ k → ⊥) → suc k ≤ v
+pass k v h n = omega (arith, n)
+
+returns-8 : tie.Need-returns-8
+returns-8 c =
+    let a = c .before .before .before .args in
+    let v = a .verb in
+    let r5 = c .match .rest .0 in
+    let r3 = r5 .0 .0 in
+    let four = pass 3 v (pass 2 v (pass 1 v (pass 0 v (omega arith) (r3 .0 .0 .0 .1)) (r3 .0 .0 .1)) (r3 .0 .1)) (r3 .1) in
+    let far : 7 ≤ v = pass 6 v (pass 5 v (pass 4 v four (r5 .0 .1)) (r5 .1)) (c .match .rest .1) in
+    (put-text (sym (ap (λ (f : List ℕ → List ℕ). f (a .ns .now)) (List·getD-eq-default verbs (λ ns. []) far))) (put-nothing (a .out .now) 0), omega arith)
 
 pub reply-spec : {M : Type 1} → statement M
 reply-spec =
@@ -93,9 +124,13 @@ reply-spec =
     (λ c. search needs) read-requires (λ c κs. search needs)
     (λ c. search needs) d0-requires (λ c κs. search needs)
     (λ c. search needs) d1-requires (λ c κs. search needs)
+    pwrite-requires
+    (λ c. search needs) pread-requires (λ c κs. search needs)
     (λ c. search needs) returns
     (λ c. search needs) returns-2
     (λ c. search needs) returns-3
     (λ c. search needs) returns-4
     (λ c. search needs) returns-5
-    returns-6)
+    (λ c. search needs) returns-6
+    (λ c. search needs) returns-7
+    returns-8)

@@ -1,0 +1,42 @@
+-- `copy_records` meets its contract: the first i records of the room are the first i of the line.
+-- A level is one of 8 bits, which the shape of the verb has.
+use mathlib.Core.Path.{_≡_, refl, subst}
+use Prim.Native.Nat.{ℕ, _-_, _≤_}
+use native.Mathlib.Omega.{arith}
+use lib.ListN.{length, take, length-set}
+use Rattle.pageverbs.specs.Pages.{roomRecords, recordsFrom}
+use Rattle.pageverbs.proofs.Lists.{records-none, record-stored}
+use Rattle.pageverbs.proofs.copy_records.Statement.{statement}
+use Rattle.pageverbs.proofs.copy_records.Tie as tie
+
+abbrev Inv-loop : tie.InvT-loop
+Inv-loop ns from count records₀ i₀ records i = (i ≤ count) × (length records ≡ roomRecords) × (take i records ≡ recordsFrom i from ns)
+
+abbrev μ-loop : tie.MeasureT-loop
+μ-loop ns from count records₀ i₀ records i = count - i
+
+cast-t20 : tie.Need-cast-t20 Inv-loop μ-loop
+cast-t20 c =
+    let c4 = c .before .before .before .before in
+    omega (arith, c4 .before .pre .1 .1 (c4 .loop .i) (omega arith) .2)
+
+loop-again : tie.Need-loop-again Inv-loop μ-loop
+loop-again c =
+    let c4 = c .before .before .before .before in
+    let l = c4 .loop in
+    let a = c4 .before .args in
+    (omega arith, simp length-set (l .inv .1), record-stored (l .records) (a .from) (l .i) (a .ns .now) (omega arith) (l .inv .2))
+
+returns : tie.Need-returns Inv-loop μ-loop
+returns c =
+    let l = c .before .loop in
+    let a = c .before .before .args in
+    let all : l .i ≡ a .count = omega arith in
+    subst (λ (k : ℕ). take k (l .records) ≡ recordsFrom k (a .from) (a .ns .now)) all (l .inv .2)
+
+pub copy-records-spec : {M : Type 1} → statement M
+copy-records-spec =
+    tie.close
+    (tie.spec Inv-loop μ-loop (λ c. (omega arith, refl, records-none _ _)) (λ c. omega arith) (λ c. omega arith) (λ c. omega arith) (λ c. omega arith)
+    (λ c. omega arith) (λ c. omega arith) (λ c. omega arith) (λ c. omega arith) (λ c. omega arith) (λ c. omega arith) cast-t20
+    (λ c. omega arith) (λ c. omega arith) (λ c. omega arith) (λ c. omega arith) loop-again returns)
