@@ -1,4 +1,4 @@
 -- The laws of shapes and of lines.
--- The functions' proofs cite them; `asked-stands` and `asked-held` are for the crates above.
+-- The functions' proofs cite them; `asked-stands`, `asked-held` and `records-fit` are for the crates above.
 pub mod Shapes
 pub mod Lines

@@ -253,6 +253,7 @@ fits (t ∷ ts) (suc k) wide shape ns e =
 fits-at : (wide : Bool) (left i : ℕ) (ns : List ℕ) → Fits wide left 0 (drop i ns) → Fits wide left i ns
 fits-at wide left i ns f j h = subst (λ (x : ℕ). x ≤ mostOf (itemOf wide (left - j))) (ap (λ (k : ℕ). getD (drop i ns) k 0) (zero-add j) ∙ getD-drop i ns j 0) (f j h)
 
+-- the place behind a number and its items
 next-of : (letter i x : ℕ) → i + 1 + itemsOf letter x ≡ nextOf letter i x
 next-of letter i x = go (eqb letter 76) (eqb letter 82)
   where
@@ -286,6 +287,7 @@ fill-stands shape ts ns e = places shape 0 ns (omega arith) (fits ts 0 true shap
 
 -- ---- the numbers of records
 
+-- no number of a record is one of more than 32 bits
 number-most : (left : ℕ) → mostOf (itemOf false left) ≤ 2 ^ 32 - 1
 number-most left = go (eqb (left % 3) 1)
   where
@@ -293,6 +295,7 @@ number-most left = go (eqb (left % 3) 1)
     go true = omega arith
     go false = omega arith
 
+-- its third is one of 8
 level-most : (left : ℕ) → left % 3 ≡ 1 → mostOf (itemOf false left) ≡ 2 ^ 8 - 1
 level-most left e = rw (eq-eqb (left % 3) 1 e)
 

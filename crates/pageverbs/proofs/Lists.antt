@@ -29,17 +29,20 @@ pub records-none : (i : ℕ) (ns : List ℕ) → [] ≡ recordsFrom 0 i ns
 unfolding recordsFrom
 records-none i ns = refl
 
+-- how many there are
 records-length : (count i : ℕ) (ns : List ℕ) → length (recordsFrom count i ns) ≡ count
 unfolding recordsFrom
 records-length zero i ns = refl
 records-length (suc count) i ns = ap suc (records-length count (i + 3) ns)
 
+-- the first of them
 records-first : (few count i : ℕ) (ns : List ℕ) → few ≤ count → recordsFrom few i ns ≡ take few (recordsFrom count i ns)
 unfolding recordsFrom
 records-first zero count i ns h = refl
 records-first (suc few) zero i ns h = absurd (omega arith)
 records-first (suc few) (suc count) i ns h = ap (λ (rs : List StuckCell). recordAt i ns ∷ rs) (records-first few count (i + 3) ns (omega arith))
 
+-- as many as there are, if a room holds them, else as many as it holds
 take-smaller : {A : Type 0} (held count most : ℕ) (l : List A) → held ≡ min count most → take held l ≡ take most (take count l)
 take-smaller held count most l e = go (decLe most count)
   where

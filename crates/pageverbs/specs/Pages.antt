@@ -44,7 +44,7 @@ recordsIn ns = recordsFrom (at ns (pageEnd ns)) (pageEnd ns + 1) ns
 abbrev pub recordsEnd : List ℕ → ℕ
 recordsEnd ns = pageEnd ns + 1 + 3 * at ns (pageEnd ns)
 
--- what `pwrite SHEET number LIST RECS slot message` is told
+-- what `pwrite SHEET number LIST RECS slot message` tells
 abbrev pub pageWritten : List ℕ → Told
 pageWritten ns = pageWrites (sheetIn ns) (pageIn ns) (recordsIn ns) (at ns (recordsEnd ns)) (at ns (recordsEnd ns + 1))
 
@@ -56,6 +56,6 @@ pageLeft ns = pageAfter (pageWritten ns) (pageIn ns) (at ns (recordsEnd ns))
 abbrev pub pwriteText : List ℕ → List ℕ
 pwriteText ns = spoken (bytes "word | d ") (pageWritten ns) ++ listed (bytes " page ") (pageLeft ns)
 
--- what `pread SHEET number LIST slot radius` is told
+-- what `pread SHEET number LIST slot radius` tells
 abbrev pub pageRead : List ℕ → Told
 pageRead ns = pageReads (sheetIn ns) (pageIn ns) (at ns (pageEnd ns)) (at ns (pageEnd ns + 1))
