@@ -1,7 +1,7 @@
 -- A page or records of which there are too many are told alike, by the sheet's refusals or 13, and the page stays as it was.
 -- So the code may clip both at one more than there may be. Assumes nothing.
-use mathlib.Core.Path.{_≡_, refl, sym, ap, ap₂, _∙_}
-use mathlib.Core.Bool.{Bool, true, false, _&&_}
+use mathlib.Core.Path.{_≡_, sym, ap, ap₂, _∙_}
+use mathlib.Core.Bool.{Bool, false, _&&_, and-false}
 use mathlib.Core.List.{List, []}
 use Prim.Native.Nat.{ℕ, _+_, _<_, _≤_, min}
 use native.Mathlib.Decide.{decLe}
@@ -23,11 +23,7 @@ many-slots : (page : List ℕ) (records : List StuckCell) → mostSlots < length
 many-slots page records h = ap (λ (t : Bool). t && fewRecords records) (lt-leb (length page) mostSlots h)
 
 many-records : (page : List ℕ) (records : List StuckCell) → mostRecords < length records → (fewSlots page && fewRecords records) ≡ false
-many-records page records h = ap (λ (t : Bool). fewSlots page && t) (lt-leb (length records) mostRecords h) ∙ go (fewSlots page)
-  where
-    go : (t : Bool) → (t && false) ≡ false
-    go true = refl
-    go false = refl
+many-records page records h = ap (λ (t : Bool). fewSlots page && t) (lt-leb (length records) mostRecords h) ∙ and-false (fewSlots page)
 
 module _ (s : Sheet) (slot w : ℕ) where
   too-many : (page : List ℕ) (records : List StuckCell) → (fewSlots page && fewRecords records) ≡ false

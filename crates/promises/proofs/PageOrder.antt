@@ -1,7 +1,7 @@
 -- "Order: 1 to 6, 13, 14, 15, then 7 and 9 or 11 and 12; a read also gives 10 after 14": each refusal of a page write and a page read, exactly when.
 -- For request 1's numbered refusals; what is told past them all is the base's. Assumes nothing.
 use mathlib.Core.Path.{_≡_, refl}
-use mathlib.Core.Bool.{Bool, true, false, _&&_, true≢false, and-eq-true-iff}
+use mathlib.Core.Bool.{Bool, true, false, _&&_, true≢false, and-eq-true-iff, and-false}
 use mathlib.Core.Logic.{_⊎_, inl, inr, _↔_, Iff·rfl}
 use mathlib.Core.List.{List, [], _∷_}
 use Prim.Native.Nat.{ℕ, _^_, _≤_, _<_}
@@ -42,11 +42,7 @@ module _ (page : List ℕ) (records : List StuckCell) where
       to false b p q e = inr (leb-false (length page) mostSlots p)
 
       from : (mostRecords < length records) ⊎ (mostSlots < length page) → (fewSlots page && fewRecords records) ≡ false
-      from (inl h) = both (fewSlots page) (lt-leb (length records) mostRecords h)
-        where
-          both : (a : Bool) {b : Bool} → b ≡ false → (a && b) ≡ false
-          both true e = e
-          both false e = refl
+      from (inl h) = rw (lt-leb (length records) mostRecords h, and-false (fewSlots page))
       from (inr h) = rw (lt-leb (length page) mostSlots h)
 
 -- ---- a page write
