@@ -1,0 +1,247 @@
+//! What is called: the inputs of each row of the table, which change from call to call, and calls at random to compare answers on.
+use crate::calls::*;
+use crate::fast::{sum, Fast};
+use crate::sheets::{random, Random};
+
+/// The radius and the cap of the table's longest searches.
+const FAR: u32 = 4;
+const CAP: u32 = 8;
+
+/// A call's own numbers.
+#[derive(Clone, Debug)]
+pub enum Call {
+    Admit,
+    Write {
+        message: Word,
+        stuck: Word,
+        levels: Word,
+    },
+    Read {
+        y: Word,
+        radius: u32,
+    },
+    D0 {
+        cap: u32,
+    },
+    D1 {
+        cap: u32,
+    },
+}
+
+/// A call on a sheet.
+#[derive(Clone, Debug)]
+pub struct Case {
+    pub sheet: Sheet,
+    pub call: Call,
+}
+
+impl Case {
+    /// What a program answers.
+    pub fn told(&self, by: &dyn Calls) -> Told {
+        let s = &self.sheet;
+        match self.call {
+            Call::Admit => by.admit(s),
+            Call::Write {
+                message,
+                stuck,
+                levels,
+            } => by.write(s, message, stuck, levels),
+            Call::Read { y, radius } => by.read(s, y, radius),
+            Call::D0 { cap } => by.d0(s, cap),
+            Call::D1 { cap } => by.d1(s, cap),
+        }
+    }
+
+    /// How many listed words are tried, if the call lists any.
+    pub fn tried(&self) -> u64 {
+        let told = self.told(&Fast);
+        match (&self.call, told.kind) {
+            (Call::Read { .. }, 0) => told.c,
+            (Call::D0 { .. } | Call::D1 { .. }, 0) => told.b,
+            (Call::Admit | Call::Write { .. }, _) => 0,
+            _ => told.a,
+        }
+    }
+}
+
+/// A row of the table: its sheets and its call by name, and the calls that are timed.
+pub struct Row {
+    pub sheets: String,
+    pub call: &'static str,
+    pub cases: Vec<Case>,
+}
+
+/// The sizes of a family of sheets: n, k and l.
+type Sizes = (usize, usize, usize);
+
+/// A row of so many calls, each drawn with a sheet of its own.
+fn row(
+    sizes: Sizes,
+    call: &'static str,
+    count: usize,
+    draw: impl Fn(Sizes, &mut Random) -> Case,
+) -> Row {
+    let mut g = Random(count as u64);
+    let (n, k, l) = sizes;
+    let cases = (0..count).map(|_| draw(sizes, &mut g)).collect();
+    Row {
+        sheets: format!("n {n}, k {k}, l {l}"),
+        call,
+        cases,
+    }
+}
+
+/// An admission of a good sheet.
+fn admit((n, k, l): Sizes, g: &mut Random) -> Case {
+    Case {
+        sheet: random(n, k, l, g),
+        call: Call::Admit,
+    }
+}
+
+/// A write of any message around as many stuck cells as half the rows of G0, at least one.
+fn write((n, k, l): Sizes, g: &mut Random) -> Case {
+    let stuck = g.ones(n, (l / 2).max(1));
+    let (message, levels) = (g.word(k), g.word(n) & stuck);
+    Case {
+        sheet: random(n, k, l, g),
+        call: Call::Write {
+            message,
+            stuck,
+            levels,
+        },
+    }
+}
+
+/// A read at radius 2 of a codeword with two cells turned over.
+fn hit((n, k, l): Sizes, g: &mut Random) -> Case {
+    let sheet = random(n, k, l, g);
+    let y = sum(sheet.g1(), g.word(k)) ^ g.ones(n, 2);
+    Case {
+        sheet,
+        call: Call::Read { y, radius: 2 },
+    }
+}
+
+/// A read at radius 4 of a word that no codeword is near to: drawn until one is found.
+fn miss((n, k, l): Sizes, g: &mut Random) -> Case {
+    loop {
+        let sheet = random(n, k, l, g);
+        let case = Case {
+            sheet,
+            call: Call::Read {
+                y: g.word(n),
+                radius: FAR,
+            },
+        };
+        if case.told(&Fast).kind == 2 {
+            return case;
+        }
+    }
+}
+
+/// A measurement of d0, and one of d1.
+fn d0((n, k, l): Sizes, g: &mut Random) -> Case {
+    Case {
+        sheet: random(n, k, l, g),
+        call: Call::D0 { cap: CAP },
+    }
+}
+
+fn d1((n, k, l): Sizes, g: &mut Random) -> Case {
+    Case {
+        sheet: random(n, k, l, g),
+        call: Call::D1 { cap: CAP },
+    }
+}
+
+/// The first of the drawn calls that answers "more than the cap".
+fn more(draw: impl Fn(Sizes, &mut Random) -> Case) -> impl Fn(Sizes, &mut Random) -> Case {
+    move |sizes, g| loop {
+        let case = draw(sizes, g);
+        if case.told(&Fast).kind == 1 {
+            return case;
+        }
+    }
+}
+
+/// The table, at n 7 and at the largest n. Sheets with few codewords have words that no codeword is near to; d0 and d1 are more
+/// than the cap only where l, or r, is most of n.
+pub fn rows() -> Vec<Row> {
+    let mut rows = Vec::new();
+    for sizes in [
+        (7, 3, 1),
+        (WIDTH, WIDTH / 2, WIDTH / 4),
+        (WIDTH, WIDTH / 4, WIDTH / 8),
+    ] {
+        rows.push(row(sizes, "admit", 64, admit));
+        rows.push(row(sizes, "write", 64, write));
+        rows.push(row(sizes, "read, radius 2, hit", 64, hit));
+        rows.push(row(sizes, "d0, cap 8", 8, d0));
+        rows.push(row(sizes, "d1, cap 8", 8, d1));
+    }
+    rows.push(row((7, 1, 0), "read, radius 4, miss", 8, miss));
+    rows.push(row(
+        (WIDTH, WIDTH / 4, WIDTH / 8),
+        "read, radius 4, miss",
+        8,
+        miss,
+    ));
+    rows.push(row((WIDTH, 2, WIDTH - 8), "d0, cap 8, more", 1, more(d0)));
+    rows.push(row((WIDTH, 4, 2), "d1, cap 8, more", 1, more(d1)));
+    rows
+}
+
+/// A sheet of any sizes, every other one damaged: a bit, the number of rows, or one of n, k and l.
+fn any_sheet(g: &mut Random) -> Sheet {
+    let n = 1 + g.below(WIDTH);
+    let k = 1 + g.below(n);
+    let l = g.below(n - k + 1);
+    let mut sheet = random(n, k, l, g);
+    match g.below(10) {
+        0..=2 => {
+            let row = g.below(n + k);
+            sheet.rows[row] ^= 1 << g.below(WIDTH);
+        }
+        3 => sheet.rows.truncate(g.below(n + k)),
+        4 => {
+            let numbers = [&mut sheet.n, &mut sheet.k, &mut sheet.l];
+            *numbers[g.below(3)] = [0, 1, WIDTH, WIDTH + 1][g.below(4)];
+        }
+        _ => {}
+    }
+    sheet
+}
+
+/// A call of any kind, its numbers within their limits and beyond them. The list of a measurement is kept short.
+pub fn any_case(g: &mut Random) -> Case {
+    let sheet = any_sheet(g);
+    let n = (sheet.n + g.below(2)).min(WIDTH);
+    let call = match g.below(5) {
+        0 => Call::Admit,
+        1 => {
+            let stuck = g.word(n) & g.word(n);
+            let levels = if g.below(8) == 0 {
+                g.word(n)
+            } else {
+                g.word(n) & stuck
+            };
+            Call::Write {
+                message: g.word(sheet.k.min(WIDTH)),
+                stuck,
+                levels,
+            }
+        }
+        2 => Call::Read {
+            y: g.word(n),
+            radius: g.below(6) as u32,
+        },
+        3 => Call::D0 {
+            cap: [0, 1, 2, 3, 4, 9][g.below(6)],
+        },
+        _ => Call::D1 {
+            cap: [0, 1, 2, 3, 4, 9][g.below(6)],
+        },
+    };
+    Case { sheet, call }
+}

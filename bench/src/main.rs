@@ -1,0 +1,106 @@
+//! bench [WORD]: compares the answers of the store with those of two programs in Rust, then times the three on the same calls and
+//! prints a table; with WORD only the rows that have it in their text. Status 1 if any answer differs.
+mod calls;
+mod clock;
+mod fast;
+mod halves;
+mod inputs;
+mod plain;
+mod sheets;
+mod store;
+
+use calls::Calls;
+use inputs::{Case, Row};
+use std::process::ExitCode;
+
+/// The programs, the store first.
+const PROGRAMS: [&dyn Calls; 3] = [&store::Store, &plain::Plain, &fast::Fast];
+
+/// How many calls at random the answers are compared on, beside those that are timed.
+const COMPARED: usize = 5000;
+
+/// How many times the table is gone through.
+const SWEEPS: usize = 4;
+
+/// The first of the calls that the programs do not answer alike.
+fn first_difference(cases: &[Case]) -> Option<&Case> {
+    cases.iter().find(|case| {
+        let told = case.told(PROGRAMS[0]);
+        PROGRAMS.iter().any(|by| case.told(*by) != told)
+    })
+}
+
+/// A call that is not answered alike, and all answers to it.
+fn show_difference(case: &Case) {
+    eprintln!("bench: answers differ: {case:?}");
+    for by in PROGRAMS {
+        eprintln!("  {:6} {:?}", by.name(), case.told(by));
+    }
+}
+
+/// A time in nanoseconds, in the unit that suits it.
+fn show_time(t: f64) -> String {
+    match t {
+        t if t < 1e3 => format!("{t:.0} ns"),
+        t if t < 1e6 => format!("{:.2} µs", t / 1e3),
+        t if t < 1e9 => format!("{:.2} ms", t / 1e6),
+        t => format!("{:.2} s", t / 1e9),
+    }
+}
+
+/// A ratio, to two or three digits.
+fn show_ratio(x: f64) -> String {
+    if x < 10.0 {
+        format!("{x:.2}")
+    } else {
+        format!("{x:.0}")
+    }
+}
+
+/// The least time of a pass over a row's calls, for each row and program. The whole table is gone through several times, so that
+/// a slow spell of the machine does not fall on one row alone.
+fn timed(rows: &[Row]) -> Vec<[f64; 3]> {
+    let mut best = vec![[f64::INFINITY; 3]; rows.len()];
+    for _ in 0..SWEEPS {
+        for (least, row) in best.iter_mut().zip(rows) {
+            clock::improve(least, &row.cases, &PROGRAMS);
+        }
+    }
+    best
+}
+
+/// Prints a row: the times of one call, and the ratios.
+fn print_row(row: &Row, times: &[f64; 3]) {
+    let calls = row.cases.len();
+    let tried = row.cases.iter().map(Case::tried).sum::<u64>() / calls as u64;
+    print!("| {} | {} | {tried} |", row.sheets, row.call);
+    for t in times {
+        print!(" {} |", show_time(t / calls as f64));
+    }
+    for t in &times[1..] {
+        print!(" {} |", show_ratio(times[0] / t));
+    }
+    println!();
+}
+
+fn main() -> ExitCode {
+    let word = std::env::args().nth(1).unwrap_or_default();
+    let wanted = |row: &Row| format!("{} {}", row.sheets, row.call).contains(&word);
+    let rows: Vec<Row> = inputs::rows().into_iter().filter(wanted).collect();
+    let mut g = sheets::Random(1);
+    let random: Vec<Case> = (0..COMPARED).map(|_| inputs::any_case(&mut g)).collect();
+    for cases in rows.iter().map(|row| &row.cases).chain([&random]) {
+        if let Some(case) = first_difference(cases) {
+            show_difference(case);
+            return ExitCode::FAILURE;
+        }
+    }
+    let calls = COMPARED + rows.iter().map(|row| row.cases.len()).sum::<usize>();
+    println!("{calls} calls, the answers of store, plain and fast agree\n");
+    println!("| sheets | call | tried | store | plain | fast | store / plain | store / fast |");
+    println!("|---|---|---|---|---|---|---|---|");
+    for (row, times) in rows.iter().zip(&timed(&rows)) {
+        print_row(row, times);
+    }
+    ExitCode::SUCCESS
+}

@@ -1,0 +1,97 @@
+//! The store, by the static library of the crate `exports`.
+use crate::calls::*;
+
+extern "C" {
+    fn namestore_admit(n: u32, k: u32, l: u32, rows: *const Word, len: usize) -> Told;
+    fn namestore_write(
+        n: u32,
+        k: u32,
+        l: u32,
+        rows: *const Word,
+        len: usize,
+        message: Word,
+        stuck: Word,
+        levels: Word,
+    ) -> Told;
+    fn namestore_read(
+        n: u32,
+        k: u32,
+        l: u32,
+        rows: *const Word,
+        len: usize,
+        y: Word,
+        radius: u32,
+    ) -> Told;
+    fn namestore_d0(n: u32, k: u32, l: u32, rows: *const Word, len: usize, cap: u32) -> Told;
+    fn namestore_d1(n: u32, k: u32, l: u32, rows: *const Word, len: usize, cap: u32) -> Told;
+}
+
+/// The store. Its calls ask nothing of what they are handed and keep nothing, so each is safe for any numbers and any slice.
+pub struct Store;
+
+impl Calls for Store {
+    fn name(&self) -> &'static str {
+        "store"
+    }
+
+    fn admit(&self, s: &Sheet) -> Told {
+        unsafe {
+            namestore_admit(
+                s.n as u32,
+                s.k as u32,
+                s.l as u32,
+                s.rows.as_ptr(),
+                s.rows.len(),
+            )
+        }
+    }
+
+    fn write(&self, s: &Sheet, message: Word, stuck: Word, levels: Word) -> Told {
+        let (rows, len) = (s.rows.as_ptr(), s.rows.len());
+        unsafe {
+            namestore_write(
+                s.n as u32, s.k as u32, s.l as u32, rows, len, message, stuck, levels,
+            )
+        }
+    }
+
+    fn read(&self, s: &Sheet, y: Word, radius: u32) -> Told {
+        unsafe {
+            namestore_read(
+                s.n as u32,
+                s.k as u32,
+                s.l as u32,
+                s.rows.as_ptr(),
+                s.rows.len(),
+                y,
+                radius,
+            )
+        }
+    }
+
+    fn d0(&self, s: &Sheet, cap: u32) -> Told {
+        unsafe {
+            namestore_d0(
+                s.n as u32,
+                s.k as u32,
+                s.l as u32,
+                s.rows.as_ptr(),
+                s.rows.len(),
+                cap,
+            )
+        }
+    }
+
+    fn d1(&self, s: &Sheet, cap: u32) -> Told {
+        unsafe {
+            namestore_d1(
+                s.n as u32,
+                s.k as u32,
+                s.l as u32,
+                s.rows.as_ptr(),
+                s.rows.len(),
+                cap,
+            )
+        }
+    }
+}
