@@ -48,13 +48,10 @@ fn show_time(t: f64) -> String {
     }
 }
 
-/// A ratio, to two or three digits.
+/// A ratio, to two digits or all of its whole part.
 fn show_ratio(x: f64) -> String {
-    if x < 10.0 {
-        format!("{x:.2}")
-    } else {
-        format!("{x:.0}")
-    }
+    let decimals = (1.0 - x.log10().floor()).clamp(0.0, 4.0) as usize;
+    format!("{x:.decimals$}")
 }
 
 /// The least time of a pass over a row's calls, for each row and program. The whole table is gone through several times, so that

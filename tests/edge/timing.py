@@ -19,16 +19,16 @@ mkdir -p target/staticlib && cc -O1 -fPIC -c alike.c -o target/alike.o && rm -f 
 
 
 def needs(*tools):
-    """Skips a test where a tool is missing or the machine is another."""
+    """Skips a test where a tool is missing or does not start, or the machine is another."""
     if os.uname().machine != "x86_64":
         raise Skipped("the bench runs on x86-64 only")
     for tool in tools:
-        if not shutil.which(tool):
+        if not shutil.which(tool) or tool == "cargo" and run([tool, "--version"])[0] != 0:
             raise Skipped("needs %s" % tool)
 
 
 def checkout(**files):
-    """A folder with the bench as it is and stand-ins on a path of its own; the command and its environment."""
+    """A folder with the bench as it is, stand-ins in its bin/ and perhaps a library's source; the folder and the command."""
     home = tempfile.mkdtemp(dir=scratch)
     shutil.copytree(os.path.join(ROOT, "bench"), os.path.join(home, "bench"), ignore=shutil.ignore_patterns("target"))
     os.mkdir(os.path.join(home, "bin"))
@@ -40,13 +40,23 @@ def checkout(**files):
     return home, [os.path.join(home, "bench", "run")]
 
 
-def only(home, *tools):
-    """A path with the stand-ins and these tools alone."""
+def before(home):
+    """The usual path, with the stand-ins before it."""
+    return {"PATH": os.path.join(home, "bin") + ":" + os.environ["PATH"]}
+
+
+def only(home):
+    """A path with the stand-ins and what the script itself uses, and nothing else."""
     folder = os.path.join(home, "tools")
     os.mkdir(folder)
-    for tool in ("bash", "dirname", "readlink", "sed", "tail") + tools:
+    for tool in ("bash", "dirname", "readlink", "sed", "tail"):
         os.symlink(os.path.realpath(shutil.which(tool)), os.path.join(folder, tool))
     return {"PATH": os.path.join(home, "bin") + ":" + folder}
+
+
+def machine(name):
+    """A uname of Linux on such a machine."""
+    return '#!/bin/sh\n[ "$1" = -s ] && echo Linux || echo %s\n' % name
 
 
 def cannot(outcome, why):
@@ -58,14 +68,15 @@ def cannot(outcome, why):
 
 @test("the bench: on another machine it says so, status 2")
 def _():
-    home, command = checkout(uname='#!/bin/sh\n[ "$1" = -s ] && echo Linux || echo aarch64\n')
+    home, command = checkout(uname=machine("aarch64"))
     cannot(run(command, env=only(home)), "this is Linux on aarch64")
 
 
 @test("the bench: without a tool that it needs it says which, status 2")
 def _():
     for missing in ("rt", "cargo", "cc"):
-        home, command = checkout(uname='#!/bin/sh\n[ "$1" = -s ] && echo Linux || echo x86_64\n', **{tool: "#!/bin/sh\n" for tool in ("rt", "cargo", "cc") if tool != missing})
+        tools = {tool: "#!/bin/sh\n" for tool in ("rt", "cargo", "cc") if tool != missing}
+        home, command = checkout(uname=machine("x86_64"), **tools)
         cannot(run(command, env=only(home)), missing + " is not on the path")
 
 
@@ -84,15 +95,23 @@ def _():
 def _():
     needs("cargo", "cc")
     home, command = checkout(rt="#!/bin/sh\necho no proof\nexit 1\n")
-    status, out, err = run(command, env={"PATH": os.path.join(home, "bin") + ":" + os.environ["PATH"]})
+    status, out, err = run(command, env=before(home))
     same((status, out, err), (1, b"", b"no proof\nbench/run: the library was not built\n"), "outcome")
+
+
+@test("the bench: a program that does not compile stops it, status 1")
+def _():
+    needs("cc")
+    home, command = checkout(rt="#!/bin/sh\n", cargo="#!/bin/sh\necho no program >&2\nexit 101\n")
+    status, out, err = run(command, env=before(home))
+    same((status, out, err), (1, b"", b"no program\nbench/run: the program was not built\n"), "outcome")
 
 
 @test("the bench: a library that answers otherwise fails it, status 1, with the call and the answers")
 def _():
     needs("cargo", "cc", "ar")
     home, command = checkout(rt=MAKES_ALIKE, library=ALIKE)
-    status, out, err = run(command, env={"PATH": os.path.join(home, "bin") + ":" + os.environ["PATH"]}, limit=50)
+    status, out, err = run(command, env=before(home), limit=50)
     same((status, out), (1, b""), "status and output")
     holds(err.startswith(b"bench: answers differ: Case") and err.count(b"\n") == 4, "standard error %s" % short(err))
 
