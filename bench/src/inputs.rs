@@ -140,7 +140,7 @@ fn miss((n, k, l): Sizes, g: &mut Random) -> Case {
     }
 }
 
-/// A measurement of d0, and one of d1.
+/// A measurement of d0.
 fn d0((n, k, l): Sizes, g: &mut Random) -> Case {
     Case {
         sheet: random(n, k, l, g),
@@ -148,6 +148,7 @@ fn d0((n, k, l): Sizes, g: &mut Random) -> Case {
     }
 }
 
+/// A measurement of d1.
 fn d1((n, k, l): Sizes, g: &mut Random) -> Case {
     Case {
         sheet: random(n, k, l, g),
@@ -192,7 +193,7 @@ pub fn rows() -> Vec<Row> {
     rows
 }
 
-/// A sheet of any sizes, every other one damaged: a bit, the number of rows, or one of n, k and l.
+/// A sheet of any sizes, about every other one damaged: a bit, the number of rows, or one of n, k and l.
 fn any_sheet(g: &mut Random) -> Sheet {
     let n = 1 + g.below(WIDTH);
     let k = 1 + g.below(n);
@@ -226,8 +227,10 @@ pub fn any_case(g: &mut Random) -> Case {
             } else {
                 g.word(n) & stuck
             };
+            let k = (sheet.k + g.below(2)).min(WIDTH);
+            let message = g.word(k);
             Call::Write {
-                message: g.word(sheet.k.min(WIDTH)),
+                message,
                 stuck,
                 levels,
             }

@@ -1,5 +1,5 @@
 //! bench [WORD]: compares the answers of the store with those of two programs in Rust, then times the three on the same calls and
-//! prints a table; with WORD only the rows that have it in their text. Status 1 if any answer differs.
+//! prints a table; with WORD only the rows that have it in their text. Status 1 if any answer differs, 2 if no row has WORD.
 mod calls;
 mod clock;
 mod fast;
@@ -11,6 +11,7 @@ mod store;
 
 use calls::Calls;
 use inputs::{Case, Row};
+use std::io::Write;
 use std::process::ExitCode;
 
 /// The programs, the store first.
@@ -21,6 +22,12 @@ const COMPARED: usize = 5000;
 
 /// How many times the table is gone through.
 const SWEEPS: usize = 4;
+
+/// The head of the table.
+const HEAD: &str = "\
+| sheets | call | tried | store | plain | fast | store / plain | store / fast |
+|---|---|---|---|---|---|---|---|
+";
 
 /// The first of the calls that the programs do not answer alike.
 fn first_difference(cases: &[Case]) -> Option<&Case> {
@@ -66,24 +73,36 @@ fn timed(rows: &[Row]) -> Vec<[f64; 3]> {
     best
 }
 
-/// Prints a row: the times of one call, and the ratios.
-fn print_row(row: &Row, times: &[f64; 3]) {
+/// A row as a line: the times of one call, and the ratios.
+fn show_row(row: &Row, times: &[f64; 3]) -> String {
     let calls = row.cases.len();
     let tried = row.cases.iter().map(Case::tried).sum::<u64>() / calls as u64;
-    print!("| {} | {} | {tried} |", row.sheets, row.call);
-    for t in times {
-        print!(" {} |", show_time(t / calls as f64));
+    let mut cells = vec![row.sheets.clone(), row.call.to_string(), tried.to_string()];
+    cells.extend(times.iter().map(|t| show_time(t / calls as f64)));
+    cells.extend(times[1..].iter().map(|t| show_ratio(times[0] / t)));
+    format!("| {} |\n", cells.join(" | "))
+}
+
+/// Writes what was found. That nobody takes it is a failure too.
+fn say(text: &str) -> ExitCode {
+    match std::io::stdout().write_all(text.as_bytes()) {
+        Ok(()) => ExitCode::SUCCESS,
+        Err(why) => {
+            eprintln!("bench: standard output: {why}");
+            ExitCode::FAILURE
+        }
     }
-    for t in &times[1..] {
-        print!(" {} |", show_ratio(times[0] / t));
-    }
-    println!();
 }
 
 fn main() -> ExitCode {
-    let word = std::env::args().nth(1).unwrap_or_default();
-    let wanted = |row: &Row| format!("{} {}", row.sheets, row.call).contains(&word);
+    let word = std::env::args_os().nth(1).unwrap_or_default();
+    let word = word.to_string_lossy();
+    let wanted = |row: &Row| format!("{} {}", row.sheets, row.call).contains(&*word);
     let rows: Vec<Row> = inputs::rows().into_iter().filter(wanted).collect();
+    if rows.is_empty() {
+        eprintln!("bench: no row has {word:?} in it");
+        return ExitCode::from(2);
+    }
     let mut g = sheets::Random(1);
     let random: Vec<Case> = (0..COMPARED).map(|_| inputs::any_case(&mut g)).collect();
     for cases in rows.iter().map(|row| &row.cases).chain([&random]) {
@@ -93,11 +112,13 @@ fn main() -> ExitCode {
         }
     }
     let calls = COMPARED + rows.iter().map(|row| row.cases.len()).sum::<usize>();
-    println!("{calls} calls, the answers of store, plain and fast agree\n");
-    println!("| sheets | call | tried | store | plain | fast | store / plain | store / fast |");
-    println!("|---|---|---|---|---|---|---|---|");
-    for (row, times) in rows.iter().zip(&timed(&rows)) {
-        print_row(row, times);
-    }
-    ExitCode::SUCCESS
+    let best = timed(&rows);
+    let table: String = rows
+        .iter()
+        .zip(&best)
+        .map(|(row, times)| show_row(row, times))
+        .collect();
+    say(&format!(
+        "{calls} calls, the answers of store, plain and fast agree\n\n{HEAD}{table}"
+    ))
 }

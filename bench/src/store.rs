@@ -26,6 +26,12 @@ extern "C" {
     fn namestore_d1(n: u32, k: u32, l: u32, rows: *const Word, len: usize, cap: u32) -> Told;
 }
 
+/// A sheet as it is lent: its numbers, and its rows as a pointer and a length.
+fn lent(s: &Sheet) -> (u32, u32, u32, *const Word, usize) {
+    let (rows, len) = (s.rows.as_ptr(), s.rows.len());
+    (s.n as u32, s.k as u32, s.l as u32, rows, len)
+}
+
 /// The store. Its calls ask nothing of what they are handed and keep nothing, so each is safe for any numbers and any slice.
 pub struct Store;
 
@@ -35,63 +41,27 @@ impl Calls for Store {
     }
 
     fn admit(&self, s: &Sheet) -> Told {
-        unsafe {
-            namestore_admit(
-                s.n as u32,
-                s.k as u32,
-                s.l as u32,
-                s.rows.as_ptr(),
-                s.rows.len(),
-            )
-        }
+        let (n, k, l, rows, len) = lent(s);
+        unsafe { namestore_admit(n, k, l, rows, len) }
     }
 
     fn write(&self, s: &Sheet, message: Word, stuck: Word, levels: Word) -> Told {
-        let (rows, len) = (s.rows.as_ptr(), s.rows.len());
-        unsafe {
-            namestore_write(
-                s.n as u32, s.k as u32, s.l as u32, rows, len, message, stuck, levels,
-            )
-        }
+        let (n, k, l, rows, len) = lent(s);
+        unsafe { namestore_write(n, k, l, rows, len, message, stuck, levels) }
     }
 
     fn read(&self, s: &Sheet, y: Word, radius: u32) -> Told {
-        unsafe {
-            namestore_read(
-                s.n as u32,
-                s.k as u32,
-                s.l as u32,
-                s.rows.as_ptr(),
-                s.rows.len(),
-                y,
-                radius,
-            )
-        }
+        let (n, k, l, rows, len) = lent(s);
+        unsafe { namestore_read(n, k, l, rows, len, y, radius) }
     }
 
     fn d0(&self, s: &Sheet, cap: u32) -> Told {
-        unsafe {
-            namestore_d0(
-                s.n as u32,
-                s.k as u32,
-                s.l as u32,
-                s.rows.as_ptr(),
-                s.rows.len(),
-                cap,
-            )
-        }
+        let (n, k, l, rows, len) = lent(s);
+        unsafe { namestore_d0(n, k, l, rows, len, cap) }
     }
 
     fn d1(&self, s: &Sheet, cap: u32) -> Told {
-        unsafe {
-            namestore_d1(
-                s.n as u32,
-                s.k as u32,
-                s.l as u32,
-                s.rows.as_ptr(),
-                s.rows.len(),
-                cap,
-            )
-        }
+        let (n, k, l, rows, len) = lent(s);
+        unsafe { namestore_d1(n, k, l, rows, len, cap) }
     }
 }

@@ -116,6 +116,22 @@ def _():
     holds(err.startswith(b"bench: answers differ: Case") and err.count(b"\n") == 4, "standard error %s" % short(err))
 
 
+@test("the bench: a word that no row has is status 2")
+def _():
+    needs("rt", "cargo", "cc")
+    status, out, err = run([os.path.join(ROOT, "bench", "run"), "n 33"], limit=50)
+    same((status, out, err), (2, b"", b'bench: no row has "n 33" in it\n'), "outcome")
+
+
+@test("the bench: an output that is not taken is status 1, one line")
+def _():
+    needs("rt", "cargo", "cc")
+    with open("/dev/full", "wb") as full:
+        status, _, err = run([os.path.join(ROOT, "bench", "run"), "n 7, k 3, l 1 admit"], limit=50, stdout=full)
+    same(status, 1, "status")
+    one_line(err, "bench: standard output: ")
+
+
 @test("the bench: its answers agree, and a row of the table is printed")
 def _():
     needs("rt", "cargo", "cc")
