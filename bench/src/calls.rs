@@ -1,4 +1,4 @@
-//! The five calls, and what they tell, in one form for the store and for Rust.
+//! The five calls on a sheet, and what they tell, in one form for the store and for Rust.
 
 /// A word of cells, as wide as the store's own (`Word` of the crate `paper`).
 pub type Word = u32;
@@ -66,84 +66,6 @@ pub struct Told {
     pub a: u64,
     pub b: u64,
     pub c: u64,
-}
-
-/// A refusal by its number, with its row, cell or count where it has one.
-#[derive(Clone, Copy)]
-pub struct Refusal(pub u32, pub Option<u64>);
-
-/// A word and the d that gives it.
-pub struct Written {
-    pub word: Word,
-    pub d: Word,
-}
-
-/// A message, what was put right, and the number tried.
-pub struct Heard {
-    pub message: Word,
-    pub z: Word,
-    pub tried: u64,
-}
-
-/// A distance, or none where it is more than the cap, and the number tried.
-pub struct Measured {
-    pub distance: Option<u32>,
-    pub tried: u64,
-}
-
-/// The kind, a refusal's number, and up to three values.
-fn told(kind: u32, number: u32, values: &[u64]) -> Told {
-    let value = |i: usize| values.get(i).copied().unwrap_or(0);
-    Told {
-        kind,
-        number,
-        count: values.len() as u32,
-        a: value(0),
-        b: value(1),
-        c: value(2),
-    }
-}
-
-impl From<Refusal> for Told {
-    fn from(why: Refusal) -> Told {
-        match why.1 {
-            None => told(2, why.0, &[]),
-            Some(place) => told(2, why.0, &[place]),
-        }
-    }
-}
-
-/// What an admission tells.
-pub fn of_admission<T>(answer: Result<T, Refusal>) -> Told {
-    answer.map_or_else(Told::from, |_| told(0, 0, &[]))
-}
-
-/// What a write tells.
-pub fn of_written(answer: Result<Written, Refusal>) -> Told {
-    answer.map_or_else(Told::from, |x| told(0, 0, &[x.word as u64, x.d as u64]))
-}
-
-/// What a read tells.
-pub fn of_heard(answer: Result<Heard, Refusal>) -> Told {
-    answer.map_or_else(Told::from, |x| {
-        told(0, 0, &[x.message as u64, x.z as u64, x.tried])
-    })
-}
-
-/// What a measurement of d0 tells.
-pub fn of_d0(answer: Result<Measured, Refusal>) -> Told {
-    answer.map_or_else(Told::from, |x| match x.distance {
-        Some(d) => told(0, 0, &[d as u64, x.tried]),
-        None => told(1, 0, &[x.tried]),
-    })
-}
-
-/// What a measurement of d1 tells: with the radius to print, half of the distance or of the cap, rounded down.
-pub fn of_d1(answer: Result<Measured, Refusal>, cap: u32) -> Told {
-    answer.map_or_else(Told::from, |x| match x.distance {
-        Some(d) => told(0, 0, &[d as u64, x.tried, (d / 2) as u64]),
-        None => told(1, 0, &[x.tried, (cap / 2) as u64]),
-    })
 }
 
 /// One program that makes the five calls.

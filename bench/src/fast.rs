@@ -2,38 +2,51 @@
 //! rows of G0 at the stuck cells, reduced as they come. Reading and measuring: `halves`.
 use crate::calls::*;
 use crate::halves;
+use crate::programs::*;
 
-/// The fast program.
+/// The fast program. Its admission finds the columns of H and M.
 pub struct Fast;
 
-impl Calls for Fast {
-    fn name(&self) -> &'static str {
-        "fast"
+impl Program for Fast {
+    type Found = Columns;
+    const NAME: &'static str = "fast";
+
+    fn admit(s: &Sheet) -> Result<Columns, Refusal> {
+        if !s.is_shaped() {
+            return Err(Refusal(1, None));
+        }
+        let over = !all_cells(s.n);
+        if s.rows.iter().fold(0, |a, x| a | x) & over != 0 {
+            let row = s.rows.iter().position(|x| x & over != 0);
+            return Err(Refusal(2, row.map(|i| i as u64)));
+        }
+        let columns = transposed(&s.rows[s.k + s.l..]);
+        if let Some(why) = off(s, &columns) {
+            return Err(why);
+        }
+        if let Some(i) = first_dependent(s.g0()) {
+            return Err(Refusal(5, Some((s.k + i) as u64)));
+        }
+        if let Some(i) = first_dependent(s.h()) {
+            return Err(Refusal(6, Some((s.k + s.l + i) as u64)));
+        }
+        Ok(columns)
     }
 
-    fn admit(&self, s: &Sheet) -> Told {
-        of_admission(admit(s))
+    fn write(s: &Sheet, message: Word, stuck: Word, levels: Word) -> Option<Written> {
+        fit(s.g0(), sum(s.g1(), message), stuck, levels)
     }
 
-    fn write(&self, s: &Sheet, message: Word, stuck: Word, levels: Word) -> Told {
-        of_written(admit(s).and_then(|_| write(s, message, stuck, levels)))
+    fn read(s: &Sheet, columns: &Columns, y: Word, radius: u32) -> Result<Heard, u64> {
+        halves::read(s, columns, y, radius)
     }
 
-    fn read(&self, s: &Sheet, y: Word, radius: u32) -> Told {
-        of_heard(admit(s).and_then(|columns| halves::read(s, &columns, y, radius)))
+    fn d0(s: &Sheet, cap: u32) -> Measured {
+        halves::measure(&transposed(s.g0())[..s.n], Word::MAX, cap, false)
     }
 
-    fn d0(&self, s: &Sheet, cap: u32) -> Told {
-        of_d0(admit(s).and_then(|_| {
-            let columns = transposed(s.g0());
-            halves::measure(&columns[..s.n], Word::MAX, cap, false)
-        }))
-    }
-
-    fn d1(&self, s: &Sheet, cap: u32) -> Told {
-        let measured =
-            |columns: Columns| halves::measure(&columns[..s.n], all_cells(s.r()), cap, true);
-        of_d1(admit(s).and_then(measured), cap)
+    fn d1(s: &Sheet, columns: &Columns, cap: u32) -> Measured {
+        halves::measure(&columns[..s.n], all_cells(s.r()), cap, true)
     }
 }
 
@@ -111,29 +124,6 @@ fn off(s: &Sheet, columns: &Columns) -> Option<Refusal> {
     four
 }
 
-/// Refusals 1 to 6, and the columns of H and M.
-fn admit(s: &Sheet) -> Result<Columns, Refusal> {
-    if !s.is_shaped() {
-        return Err(Refusal(1, None));
-    }
-    let over = !all_cells(s.n);
-    if s.rows.iter().fold(0, |a, x| a | x) & over != 0 {
-        let row = s.rows.iter().position(|x| x & over != 0);
-        return Err(Refusal(2, row.map(|i| i as u64)));
-    }
-    let columns = transposed(&s.rows[s.k + s.l..]);
-    if let Some(why) = off(s, &columns) {
-        return Err(why);
-    }
-    if let Some(i) = first_dependent(s.g0()) {
-        return Err(Refusal(5, Some((s.k + i) as u64)));
-    }
-    if let Some(i) = first_dependent(s.h()) {
-        return Err(Refusal(6, Some((s.k + s.l + i) as u64)));
-    }
-    Ok(columns)
-}
-
 /// The sum of the rows that the bits pick.
 pub fn sum(rows: &[Word], mut bits: Word) -> Word {
     let mut x = 0;
@@ -144,24 +134,12 @@ pub fn sum(rows: &[Word], mut bits: Word) -> Word {
     x
 }
 
-/// The word with the smallest d: refusals 7, 8 and 9.
-fn write(s: &Sheet, message: Word, stuck: Word, levels: Word) -> Result<Written, Refusal> {
-    if message & !all_cells(s.k) != 0 {
-        return Err(Refusal(7, None));
-    }
-    let bad = ((stuck | levels) & !all_cells(s.n)) | (levels & !stuck);
-    if bad != 0 {
-        return Err(Refusal(8, Some(bad.trailing_zeros() as u64)));
-    }
-    fit(s.g0(), sum(s.g1(), message), stuck, levels)
-}
-
 /// The smallest d uses only rows of G0 that, seen at the stuck cells, are no sum of earlier ones: an elimination of the rows so
 /// seen gives it.
-fn fit(g0: &[Word], base: Word, stuck: Word, levels: Word) -> Result<Written, Refusal> {
+fn fit(g0: &[Word], base: Word, stuck: Word, levels: Word) -> Option<Written> {
     let mut want = (base ^ levels) & stuck;
     if want == 0 {
-        return Ok(Written { word: base, d: 0 });
+        return Some(Written { word: base, d: 0 });
     }
     let (mut seen, mut by, mut at) = ([0; WIDTH], [0; WIDTH], [0; WIDTH]);
     let mut pivots = 0;
@@ -185,9 +163,6 @@ fn fit(g0: &[Word], base: Word, stuck: Word, levels: Word) -> Result<Written, Re
             d ^= by[i];
         }
     }
-    if want != 0 {
-        return Err(Refusal(9, None));
-    }
     let word = base ^ sum(g0, d);
-    Ok(Written { word, d })
+    (want == 0).then_some(Written { word, d })
 }

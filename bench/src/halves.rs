@@ -3,6 +3,7 @@
 //! sum of binomials.
 use crate::calls::*;
 use crate::fast::{sum, Columns};
+use crate::programs::{Heard, Measured};
 
 /// Row c has the ways to choose 0 to 9 of c things.
 const BINOMIALS: [[u64; 10]; WIDTH + 1] = binomials();
@@ -188,28 +189,18 @@ fn nearest(columns: &[Word], h: Word, want: Word, radius: u32) -> Option<Word> {
     by_halves(columns, h, &two, 2, 2, want)
 }
 
-/// The message of the nearest codeword: refusals 10, 11 and 12.
-pub fn read(s: &Sheet, columns: &Columns, y: Word, radius: u32) -> Result<Heard, Refusal> {
-    let bad = y & !all_cells(s.n);
-    if bad != 0 {
-        return Err(Refusal(10, Some(bad.trailing_zeros() as u64)));
-    }
-    if radius > 4 {
-        return Err(Refusal(11, None));
-    }
+/// The message of the nearest codeword, or the length of the list.
+pub fn read(s: &Sheet, columns: &Columns, y: Word, radius: u32) -> Result<Heard, u64> {
     let (columns, h, total) = (&columns[..s.n], all_cells(s.r()), sum(columns, y));
-    let all = words(s.n, 0, radius.min(s.n as u32) + 1);
-    let z = nearest(columns, h, total & h, radius).ok_or(Refusal(12, Some(all)))?;
+    let all = || words(s.n, 0, radius.min(s.n as u32) + 1);
+    let z = nearest(columns, h, total & h, radius).ok_or_else(all)?;
     let message = (sum(columns, z) ^ total) >> s.r();
     let tried = words(s.n, 0, z.count_ones()) + place_in_weight(z);
     Ok(Heard { message, z, tried })
 }
 
-/// The least weight of a word whose sum is 0 at the cells of h (with M: and not 0 off them): refusal 11.
-pub fn measure(columns: &[Word], h: Word, cap: u32, with_m: bool) -> Result<Measured, Refusal> {
-    if !(1..=8).contains(&cap) {
-        return Err(Refusal(11, None));
-    }
+/// The least weight of a word whose sum is 0 at the cells of h (with M: and not 0 off them).
+pub fn measure(columns: &[Word], h: Word, cap: u32, with_m: bool) -> Measured {
     let n = columns.len();
     let top = cap.min(n as u32);
     let mut sums = None;
@@ -226,14 +217,14 @@ pub fn measure(columns: &[Word], h: Word, cap: u32, with_m: bool) -> Result<Meas
         };
         if let Some(z) = hit {
             let tried = words(n, 1, v) + place_in_weight(z);
-            return Ok(Measured {
+            return Measured {
                 distance: Some(v),
                 tried,
-            });
+            };
         }
     }
-    Ok(Measured {
+    Measured {
         distance: None,
         tried: words(n, 1, top + 1),
-    })
+    }
 }

@@ -6,6 +6,7 @@ mod fast;
 mod halves;
 mod inputs;
 mod plain;
+mod programs;
 mod sheets;
 mod store;
 

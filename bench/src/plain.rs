@@ -1,34 +1,74 @@
 //! The obvious program: a product one cell at a time, every listed word tried.
 use crate::calls::*;
+use crate::programs::*;
 
-/// The plain program.
+/// The plain program. Its admission finds nothing that the jobs could use.
 pub struct Plain;
 
-impl Calls for Plain {
-    fn name(&self) -> &'static str {
-        "plain"
+impl Program for Plain {
+    type Found = ();
+    const NAME: &'static str = "plain";
+
+    fn admit(s: &Sheet) -> Result<(), Refusal> {
+        if !s.is_shaped() {
+            return Err(Refusal(1, None));
+        }
+        let (n, k, l) = (s.n, s.k, s.l);
+        let at = |number, row: usize| Err(Refusal(number, Some(row as u64)));
+        for (i, row) in s.rows.iter().enumerate() {
+            if row & !all_cells(n) != 0 {
+                return at(2, i);
+            }
+        }
+        for i in 0..k + l {
+            if s.h().iter().any(|h| product(s.rows[i], *h, n)) {
+                return at(3, i);
+            }
+        }
+        for i in 0..k + l {
+            if (0..k).any(|j| product(s.rows[i], s.m()[j], n) != (i == j)) {
+                return at(4, i);
+            }
+        }
+        if let Some(i) = first_dependent(s.g0(), n) {
+            return at(5, k + i);
+        }
+        if let Some(i) = first_dependent(s.h(), n) {
+            return at(6, k + l + i);
+        }
+        Ok(())
     }
 
-    fn admit(&self, s: &Sheet) -> Told {
-        of_admission(admit(s))
+    fn write(s: &Sheet, message: Word, stuck: Word, levels: Word) -> Option<Written> {
+        let base = sum(s.g1(), message);
+        let mut equations: Vec<(Word, bool)> = Vec::new();
+        for c in (0..s.n).filter(|c| (stuck >> c) & 1 == 1) {
+            let bit = |j: usize| ((s.g0()[j] >> c) & 1) << j;
+            let row = (0..s.l).fold(0, |a, j| a | bit(j));
+            equations.push((row, ((base ^ levels) >> c) & 1 == 1));
+        }
+        let d = smallest(&mut equations, s.l)?;
+        let word = base ^ sum(s.g0(), d);
+        Some(Written { word, d })
     }
 
-    fn write(&self, s: &Sheet, message: Word, stuck: Word, levels: Word) -> Told {
-        of_written(admit(s).and_then(|()| write(s, message, stuck, levels)))
+    fn read(s: &Sheet, _: &(), y: Word, radius: u32) -> Result<Heard, u64> {
+        let mut tried = 0;
+        for v in 0..=radius {
+            if let Some(z) = first(s.n, v, 0, &mut tried, &|z| is_codeword(s, y ^ z)) {
+                let message = message_of(s, y ^ z);
+                return Ok(Heard { message, z, tried });
+            }
+        }
+        Err(tried)
     }
 
-    fn read(&self, s: &Sheet, y: Word, radius: u32) -> Told {
-        of_heard(admit(s).and_then(|()| read(s, y, radius)))
+    fn d0(s: &Sheet, cap: u32) -> Measured {
+        measure(s, cap, &|z| s.g0().iter().all(|g| !product(z, *g, s.n)))
     }
 
-    fn d0(&self, s: &Sheet, cap: u32) -> Told {
-        let clear = |z| s.g0().iter().all(|g| !product(z, *g, s.n));
-        of_d0(admit(s).and_then(|()| measure(s, cap, &clear)))
-    }
-
-    fn d1(&self, s: &Sheet, cap: u32) -> Told {
-        let hidden = |z| is_codeword(s, z) && message_of(s, z) != 0;
-        of_d1(admit(s).and_then(|()| measure(s, cap, &hidden)), cap)
+    fn d1(s: &Sheet, _: &(), cap: u32) -> Measured {
+        measure(s, cap, &|z| is_codeword(s, z) && message_of(s, z) != 0)
     }
 }
 
@@ -61,62 +101,10 @@ fn first_dependent(rows: &[Word], n: usize) -> Option<usize> {
     None
 }
 
-/// Refusals 1 to 6.
-fn admit(s: &Sheet) -> Result<(), Refusal> {
-    if !s.is_shaped() {
-        return Err(Refusal(1, None));
-    }
-    let (n, k, l) = (s.n, s.k, s.l);
-    let at = |number, row: usize| Err(Refusal(number, Some(row as u64)));
-    for (i, row) in s.rows.iter().enumerate() {
-        if row & !all_cells(n) != 0 {
-            return at(2, i);
-        }
-    }
-    for i in 0..k + l {
-        if s.h().iter().any(|h| product(s.rows[i], *h, n)) {
-            return at(3, i);
-        }
-    }
-    for i in 0..k + l {
-        if (0..k).any(|j| product(s.rows[i], s.m()[j], n) != (i == j)) {
-            return at(4, i);
-        }
-    }
-    if let Some(i) = first_dependent(s.g0(), n) {
-        return at(5, k + i);
-    }
-    if let Some(i) = first_dependent(s.h(), n) {
-        return at(6, k + l + i);
-    }
-    Ok(())
-}
-
 /// The sum of the rows that the bits pick.
 fn sum(rows: &[Word], bits: Word) -> Word {
     let picked = |i: &usize| (bits >> i) & 1 == 1;
     (0..rows.len()).filter(picked).fold(0, |x, i| x ^ rows[i])
-}
-
-/// The word with the smallest d: refusals 7, 8 and 9.
-fn write(s: &Sheet, message: Word, stuck: Word, levels: Word) -> Result<Written, Refusal> {
-    if message & !all_cells(s.k) != 0 {
-        return Err(Refusal(7, None));
-    }
-    let bad = ((stuck | levels) & !all_cells(s.n)) | (levels & !stuck);
-    if bad != 0 {
-        return Err(Refusal(8, Some(bad.trailing_zeros() as u64)));
-    }
-    let base = sum(s.g1(), message);
-    let mut equations: Vec<(Word, bool)> = Vec::new();
-    for c in (0..s.n).filter(|c| (stuck >> c) & 1 == 1) {
-        let bit = |j: usize| ((s.g0()[j] >> c) & 1) << j;
-        let row = (0..s.l).fold(0, |a, j| a | bit(j));
-        equations.push((row, ((base ^ levels) >> c) & 1 == 1));
-    }
-    let d = smallest(&mut equations, s.l).ok_or(Refusal(9, None))?;
-    let word = base ^ sum(s.g0(), d);
-    Ok(Written { word, d })
 }
 
 /// The smallest d of l bits that meets the equations: Gauss and Jordan, with pivots at the lowest bits of d. Then each free bit
@@ -178,31 +166,9 @@ fn first(
     first(cells - 1, v - 1, high | 1 << (cells - 1), tried, test)
 }
 
-/// The message of the nearest codeword: refusals 10, 11 and 12.
-fn read(s: &Sheet, y: Word, radius: u32) -> Result<Heard, Refusal> {
-    let bad = y & !all_cells(s.n);
-    if bad != 0 {
-        return Err(Refusal(10, Some(bad.trailing_zeros() as u64)));
-    }
-    if radius > 4 {
-        return Err(Refusal(11, None));
-    }
-    let mut tried = 0;
-    for v in 0..=radius {
-        if let Some(z) = first(s.n, v, 0, &mut tried, &|z| is_codeword(s, y ^ z)) {
-            let message = message_of(s, y ^ z);
-            return Ok(Heard { message, z, tried });
-        }
-    }
-    Err(Refusal(12, Some(tried)))
-}
-
-/// The least weight of a word that passes the test: refusal 11.
-fn measure(s: &Sheet, cap: u32, test: &dyn Fn(Word) -> bool) -> Result<Measured, Refusal> {
-    if !(1..=8).contains(&cap) {
-        return Err(Refusal(11, None));
-    }
+/// The least weight of a word that passes the test.
+fn measure(s: &Sheet, cap: u32, test: &dyn Fn(Word) -> bool) -> Measured {
     let mut tried = 0;
     let distance = (1..=cap).find(|v| first(s.n, *v, 0, &mut tried, test).is_some());
-    Ok(Measured { distance, tried })
+    Measured { distance, tried }
 }
