@@ -116,13 +116,13 @@ impl<P: Program> Calls for P {
         }))
     }
 
-    /// With the radius to print: half of the distance or of the cap, rounded down.
+    /// With the radius to print: half of the distance less 1, or of the cap, rounded down.
     fn d1(&self, s: &Sheet, cap: u32) -> Told {
         tells(P::admit(s).and_then(|found| {
             judge(11, (1..=MOST_CAP).contains(&cap))?;
             let x = P::d1(s, &found, cap);
             Ok(match x.distance {
-                Some(d) => told(0, 0, &[d as u64, x.tried, (d / 2) as u64]),
+                Some(d) => told(0, 0, &[d as u64, x.tried, ((d - 1) / 2) as u64]),
                 None => told(1, 0, &[x.tried, (cap / 2) as u64]),
             })
         }))

@@ -76,7 +76,7 @@ pub fn measure_d1(n: u32, k: u32, l: u32, rows: &[Word], cap: u32) -> MeasuredD1
             MeasuredD1::Distance {
                 d,
                 tried,
-                radius: d / 2,
+                radius: (d - 1) / 2,
             }
         }
         Found::Nothing { tried } => MeasuredD1::More {

@@ -2,7 +2,7 @@
 use mathlib.Core.Path.{_≡_}
 use mathlib.Core.Bool.{Bool, not, _&&_}
 use mathlib.Core.List.{[], _∷_}
-use Prim.Native.Nat.{ℕ, _/_, _^_, _≤_, _<_}
+use Prim.Native.Nat.{ℕ, _-_, _/_, _^_, _≤_, _<_}
 use lib.Dec.{eqb, leb}
 use Rattle.paper.specs.Words.{weight, products}
 use Rattle.paper.specs.Listing.{Search, found, missed, weights, search}
@@ -45,11 +45,11 @@ unfoldable pub searchD1 : Sheet → ℕ → Search
 unfolding weights search
 searchD1 s cap = search (λ z. eqb (products (H s) z) 0 && not (eqb (products (M s) z) 0)) 0 (weights (s .n) 1 cap)
 
--- "the radius to print on the plate: half of d1, rounded down"
+-- document 02, request 3: "the printed radius is half of d1 - 1, rounded down"
 abbrev pub printed : ℕ → ℕ
-printed d = d / 2
+printed d = (d - 1) / 2
 
--- "or half of the cap, rounded down, where d1 is more than the cap"
+-- "Where d1 is more than the cap it stays as it was": half of the cap, rounded down
 abbrev pub printedBeyond : ℕ → ℕ
 printedBeyond cap = cap / 2
 

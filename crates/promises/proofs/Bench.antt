@@ -1,5 +1,5 @@
--- The starred cases of document 01: one table of calls and what they tell, and one claim over its rows, of the definitions.
--- So a reader sees the definitions answer as document 01 says. Assumes nothing.
+-- The starred cases of document 01, and the sheet with d1 = 4 of document 02: one table of calls and what they tell, and one claim over its rows,
+-- of the definitions. So a reader sees the definitions answer as the documents say. Assumes nothing.
 use mathlib.Core.Path.{_≡_, refl}
 use mathlib.Core.Bool.{cond}
 use mathlib.Core.List.{List, [], _∷_, map}
@@ -22,7 +22,11 @@ kitchen = sheet 7 3 1 (49 ∷ 82 ∷ 100 ∷ 127 ∷ 27 ∷ 45 ∷ 78 ∷ 9 ∷ 
 abbrev pub attic : Sheet
 attic = sheet 3 1 2 (1 ∷ 3 ∷ 5 ∷ 7 ∷ [])
 
--- a call, and what it outcome
+-- document 02, request 3: "Add a bench case with d1 = 4."
+abbrev pub cellar : Sheet
+cellar = sheet 8 3 1 (177 ∷ 210 ∷ 228 ∷ 255 ∷ 27 ∷ 45 ∷ 78 ∷ 135 ∷ 9 ∷ 10 ∷ 12 ∷ [])
+
+-- a call
 pub data Call : Type 0 where
   write : Sheet → ℕ → ℕ → ℕ → Call
   read : Sheet → ℕ → ℕ → Call
@@ -31,7 +35,7 @@ pub data Call : Type 0 where
   -- no call, but what the attic's case says beside one: the word of a message and a d, and whether it fits (1) or not (0)
   word : Sheet → ℕ → ℕ → ℕ → ℕ → Call
 
--- what the definition of a call outcome
+-- what the definition of a call tells
 pub outcome : Call → Told
 outcome (write s message stuck levels) = writes s message stuck levels
 outcome (read s y radius) = reads s y radius
@@ -48,7 +52,8 @@ infix 70 _gives_
 _gives_ : Call → Told → Case
 call gives told = record { call = call; told = told }
 
--- those marked * in document 01, in its order
+-- those marked * in document 01, in its order; then the cellar: 85 with cell 0 turned over is put right at the printed radius, and with cells 0 and 4
+-- turned over, 68, it is misread at radius 2, which half of d1 would print
 pub cases : List Case
 cases =
     write kitchen 5 0 0 gives answer (85 ∷ 0 ∷ [])
@@ -68,6 +73,11 @@ cases =
     ∷ write attic 0 7 0 gives answer (0 ∷ 0 ∷ [])
     ∷ d0 attic 8 gives answer (3 ∷ 7 ∷ [])
     ∷ d1 attic 8 gives answer (1 ∷ 1 ∷ 0 ∷ [])
+    ∷ d1 cellar 8 gives answer (4 ∷ 95 ∷ 1 ∷ [])
+    ∷ d1 cellar 3 gives more (92 ∷ 1 ∷ [])
+    ∷ write cellar 5 0 0 gives answer (85 ∷ 0 ∷ [])
+    ∷ read cellar (85 ⊕ 1) 1 gives answer (5 ∷ 1 ∷ 2 ∷ [])
+    ∷ read cellar (85 ⊕ 17) 2 gives answer (1 ∷ 10 ∷ 14 ∷ [])
     ∷ []
 
 -- every row of the table holds

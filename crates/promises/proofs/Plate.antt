@@ -207,7 +207,7 @@ module _ (s : Sheet) (cap : ℕ) where
   more-d0 tried e =
       missed-beyond (masked-decides s) cap (missedD0 (searchD0 s cap) tried (measure-d0-told s cap (more (tried ∷ [])) refl refl .0 e .2))
 
-  -- "the radius to print on the plate: half of d1, rounded down, or half of the cap, rounded down, where d1 is more than the cap"
+  -- "the printed radius is half of d1 - 1, rounded down. Where d1 is more than the cap it stays as it was", half of the cap, rounded down
   pub answered-d1 : (d tried radius : ℕ) → measuresD1 s cap ≡ answer (d ∷ tried ∷ radius ∷ [])
       → Measured (Hidden s) (s .n) cap d tried × (radius ≡ printed d)
   unfolding searchD1
