@@ -1,4 +1,5 @@
-//! The calls of document 01 on a lent sheet: writing, reading, and measuring d0 and d1.
+//! The calls of document 01 on a lent sheet: writing, reading, and measuring d0 and d1,
+//! the printed radius by request 3.
 
 use crate::listing::listed;
 use crate::sheet::{
@@ -105,13 +106,17 @@ pub fn d0(sheet: &Sheet, cap: u32) -> Result<Answer, Refusal> {
 }
 
 /// d1: "the least weight of a codeword with a message other than 0", and the radius for
-/// the plate: half of d1, or half of the cap where d1 is more, rounded down.
+/// the plate by document 02, request 3: half of d1 - 1, or half of the cap where d1 is
+/// more than the cap, rounded down.
 pub fn d1(sheet: &Sheet, cap: u32) -> Result<Answer, Refusal> {
     let parts = admit(sheet)?;
     let measured = measure(&parts, cap, |word| {
         is_codeword(&parts, word) && message_of(&parts, word) != 0
     })?;
-    let radius = measured.distance.unwrap_or(cap) / 2;
+    let radius = match measured.distance {
+        Some(distance) => (distance - 1) / 2,
+        None => cap / 2,
+    };
     Ok(Answer::D1 { measured, radius })
 }
 
@@ -136,50 +141,4 @@ fn measure(parts: &Parts, cap: u32, hit: impl Fn(u32) -> bool) -> Result<Measure
 }
 
 #[cfg(test)]
-mod tests {
-    use super::*;
-    use crate::making::random_sheet;
-    use crate::random::Random;
-
-    /// Both ways to the smallest d agree, whether the levels are those of a word or not.
-    #[test]
-    fn elimination_agrees_with_every_d() {
-        let mut random = Random::new(21);
-        for _ in 0..3000 {
-            let sheet = random_sheet(&mut random);
-            let parts = admit(&sheet).expect("an admitted sheet");
-            if parts.g0.len() > 10 {
-                continue;
-            }
-            let plain = sum_of(parts.g1, random.word(sheet.k));
-            let stuck = random.word(sheet.n) & random.word(sheet.n);
-            let some_word = plain ^ sum_of(parts.g0, random.word(sheet.l));
-            for levels in [some_word & stuck, random.word(sheet.n) & stuck] {
-                assert_eq!(
-                    eliminated_d(&parts, plain, stuck, levels),
-                    first_fitting_d(&parts, plain, stuck, levels)
-                );
-            }
-        }
-    }
-
-    /// The words of a message by its definition are the sums wG1 + dG0, each from one d.
-    #[test]
-    fn words_of_a_message_are_the_sums() {
-        let mut random = Random::new(22);
-        for _ in 0..400 {
-            let sheet = random_sheet(&mut random);
-            if sheet.n > 9 {
-                continue;
-            }
-            let parts = admit(&sheet).expect("an admitted sheet");
-            let w = random.word(sheet.k);
-            let is_of_w = |word: &u32| is_codeword(&parts, *word) && message_of(&parts, *word) == w;
-            let defined: Vec<u32> = (0..1u32 << sheet.n).filter(is_of_w).collect();
-            let sum = |d| sum_of(parts.g1, w) ^ sum_of(parts.g0, d);
-            let mut sums: Vec<u32> = (0..1u32 << sheet.l).map(sum).collect();
-            sums.sort_unstable();
-            assert_eq!(defined, sums);
-        }
-    }
-}
+mod tests;

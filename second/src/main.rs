@@ -1,6 +1,6 @@
 //! The second program: it answers the calls of the name store on its own, straight from
-//! the definitions of document 01 and request 1, and makes cases on which the two are
-//! compared.
+//! the definitions of document 01 and requests 1 and 3, and makes cases on which the two
+//! are compared.
 
 mod asking;
 mod breaking;

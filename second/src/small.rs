@@ -58,7 +58,7 @@ fn calls_of_shape(n: u32, k: u32, l: u32) -> Vec<String> {
 }
 
 /// Every sheet with these numbers whose n + k rows are all below the limit.
-fn all_sheets(n: u32, k: u32, l: u32, limit: u32) -> impl Iterator<Item = Sheet> {
+pub fn all_sheets(n: u32, k: u32, l: u32, limit: u32) -> impl Iterator<Item = Sheet> {
     let rows_of = move |number: u32| (0..n + k).map(move |i| number / limit.pow(i) % limit);
     (0..limit.pow(n + k)).map(move |number| Sheet {
         n,

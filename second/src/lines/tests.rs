@@ -1,10 +1,13 @@
-//! Tests of whole lines: the bench cases of document 01 as one table, page calls as
-//! another, and lines that are no calls.
+//! Tests of whole lines: the bench cases of document 01 as one table, those of request 3
+//! as another, page calls as a third, and lines that are no calls.
 
 use super::*;
 
 const KITCHEN: &str = "7 3 1 10 49 82 100 127 27 45 78 9 10 12";
 const ATTIC: &str = "3 1 2 4 1 3 5 7";
+
+/// The bench sheet of request 3, with d1 = 4: the kitchen sheet and a cell of parity.
+const CHIP: &str = "8 3 1 11 177 210 228 255 27 45 78 135 9 10 12";
 
 /// Verb, sheet, arguments and answer of every bench case of document 01; the last five
 /// are of the document's small program, the order of refusals and a sheet of one cell.
@@ -63,6 +66,21 @@ const BENCH: [(&str, &str, &str, &str); 34] = [
     ("write", KITCHEN, " 8 128 1", "refused 7"),
     ("read", "1 1 0 2 1 1", " 1 4", "message 1 z 0 tried 1"),
     ("d0", "1 1 0 2 1 1", " 0", "refused 11"),
+];
+
+/// Verb, sheet, arguments and answer of request 3's bench case: its plate at caps below,
+/// at and above d1, and a word that two errors turn into one that is read wrongly at
+/// radius 2, which the plate no longer prints.
+const PLATE: [(&str, &str, &str, &str); 9] = [
+    ("admit", CHIP, "", "admitted"),
+    ("d1", CHIP, " 8", "distance 4 tried 95 radius 1"),
+    ("d1", CHIP, " 4", "distance 4 tried 95 radius 1"),
+    ("d1", CHIP, " 3", "more tried 92 radius 1"),
+    ("d1", CHIP, " 2", "more tried 36 radius 1"),
+    ("d1", CHIP, " 1", "more tried 8 radius 0"),
+    ("write", CHIP, " 5 0 0", "word 85 d 0"),
+    ("read", CHIP, " 68 2", "message 1 z 10 tried 14"),
+    ("read", CHIP, " 68 1", "refused 12 9"),
 ];
 
 /// Verb, sheet, arguments and answer of page calls: slots and their limits, records good
@@ -204,13 +222,26 @@ fn answered(line: &str) -> Option<String> {
     answer_line(line.as_bytes())
 }
 
-/// Every bench case is answered as document 01 says, every page call as request 1 does.
+/// Every bench case is answered as document 01 says or, of the plate, request 3, and every
+/// page call as request 1 does.
 #[test]
 fn bench_cases() {
-    for (verb, sheet, arguments, wanted) in BENCH.into_iter().chain(PAGES) {
+    for (verb, sheet, arguments, wanted) in BENCH.into_iter().chain(PLATE).chain(PAGES) {
         let line = format!("{verb} {sheet}{arguments}");
         assert_eq!(answered(&line).as_deref(), Some(wanted), "{line}");
     }
+}
+
+/// At the radius printed for request 3's sheet any one error in message 5's word is put
+/// right; the word read wrongly at radius 2 is that word with cells 0 and 4 turned over.
+#[test]
+fn errors_of_the_plate_case() {
+    for cell in 0..8 {
+        let (y, z, tried) = (85 ^ (1 << cell), 1 << cell, cell + 2);
+        let wanted = format!("message 5 z {z} tried {tried}");
+        assert_eq!(answered(&format!("read {CHIP} {y} 1")), Some(wanted));
+    }
+    assert_eq!(85 ^ (1 << 0 | 1 << 4), 68);
 }
 
 /// Lines that are no calls are answered `unknown`.
