@@ -3,15 +3,17 @@
 use mathlib.Core.Path.{_≡_}
 use mathlib.Core.Bool.{true}
 use mathlib.Core.Logic.{_⊎_}
-use mathlib.Core.List.{List}
-use Prim.Native.Nat.{ℕ, _+_, _-_, _^_, _≤_, _<_}
+use mathlib.Core.List.{List, [], _∷_}
+use Prim.Native.Nat.{ℕ, _+_, _-_, _^_, _≤_, _<_, min}
 use lib.Bits.{bitAnd}
 use lib.ListN.{length, getD}
 use Rattle.paper.specs.Words.{weight, _⊕_}
 use Rattle.paper.specs.Listing.{weights}
+use Rattle.paper.specs.Refusals.{answer, more}
 use Rattle.paper.specs.Sheet.{Sheet, Codeword, WordOf}
 use Rattle.paper.specs.Writing.{wordOf, fits}
-use Rattle.paper.specs.Plate.{Least}
+use Rattle.paper.specs.Reading.{mostRadius}
+use Rattle.paper.specs.Plate.{Least, measuresD1}
 
 -- stuck cells and levels that rule 8 does not refuse: all stuck cells below n, and a level only where a cell is stuck
 pub record Stuck (s : Sheet) (stuck levels : ℕ) : Type 0 where
@@ -59,3 +61,13 @@ pub record Measured (P : ℕ → Type 0) (n cap d tried : ℕ) : Type 0 where
 pub record Beyond (P : ℕ → Type 0) (n cap tried : ℕ) : Type 0 where
   pub whole : tried ≡ length (weights n 1 cap)
   pub far : (x : ℕ) → P x → cap + 1 ≤ weight x
+
+-- the radius that a measurement of d1 prints, and the number that demand 3 holds its double against: d1 where it was found,
+-- "the cap plus 1 in its place" where d1 is more than the cap
+pub data Printed (s : Sheet) (cap d radius : ℕ) : Type 0 where
+  by-d1 : (tried : ℕ) → measuresD1 s cap ≡ answer (d ∷ tried ∷ radius ∷ []) → Printed s cap d radius
+  by-cap : (tried : ℕ) → measuresD1 s cap ≡ more (tried ∷ radius ∷ []) → d ≡ cap + 1 → Printed s cap d radius
+
+-- document 02, request 3: "the printed radius, held to 4"
+abbrev pub held : ℕ → ℕ
+held radius = min mostRadius radius

@@ -10,6 +10,7 @@ pub mod Reading
 pub mod Plate
 pub mod Demand3
 pub mod Box
+pub mod Printed
 pub mod Useless
 pub mod PageOrder
 pub mod PagePinned
