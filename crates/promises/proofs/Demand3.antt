@@ -34,7 +34,7 @@ use Rattle.writing.proofs.Breaches.{stuck-passes}
 use Rattle.promises.proofs.Answers.{writes-on}
 use Rattle.promises.proofs.Order.{write-9}
 use Rattle.promises.proofs.Writing.{written-fits, writes-free}
-use Rattle.promises.proofs.Reading.{read-first, near-read}
+use Rattle.promises.proofs.Reading.{read-first, disturbed-read}
 use Rattle.promises.proofs.Plate.{hides, hides-only, hidden-decides, more-d0, more-d1}
 
 -- ---- stuck cells
@@ -152,8 +152,7 @@ module _ (s : Sheet) (v : ℕ) (far : (c : ℕ) → Hidden s c → v ≤ ones c)
       let word = written-fits s w stuck levels x d e .word in
       let y : ℕ = x ⊕ noise in
       let y-low : y < 2 ^ s .n = ⊕-lt (s .n) x noise (word .code .cells) low in
-      let back : x ≡ y ⊕ noise = simp sums in
-      let r = near-read s y y-low t ok h noise low (subst (Codeword s) back (word .code)) few in
+      let r = disturbed-read s ok x (word .code) noise t low few h in
       let f = read-first s y y-low t (r .0) (r .1) (r .2) (r .3) in
       let apart : x ⊕ (y ⊕ r .1) ≡ noise ⊕ r .1 = simp sums in
       let m : r .0 ≡ w =

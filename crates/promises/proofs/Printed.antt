@@ -7,15 +7,14 @@ use native.Mathlib.Decide.{decLe}
 use native.Mathlib.Omega.{arith}
 use Rattle.paper.specs.Words.{weight, _⊕_}
 use Rattle.paper.specs.Refusals.{answer, more}
-use Rattle.paper.specs.Sheet.{Sheet, Admitted, Codeword}
+use Rattle.paper.specs.Sheet.{Sheet, Admitted}
 use Rattle.paper.specs.Writing.{writes}
 use Rattle.paper.specs.Reading.{mostRadius, reads}
 use Rattle.paper.specs.Plate.{Hidden, D1, mostCap, measuresD1}
 use Rattle.paper.specs.Promised.{Printed, by-d1, by-cap, held}
-use Rattle.words.proofs.Sums.{sums, ⊕-lt}
 use Rattle.promises.proofs.Answers.{measure-d1-told}
 use Rattle.promises.proofs.Writing.{written-fits}
-use Rattle.promises.proofs.Reading.{near-read}
+use Rattle.promises.proofs.Reading.{disturbed-read}
 use Rattle.promises.proofs.Plate.{d1-exists, d1-some, answered-d1, more-d1, measured-d1}
 use Rattle.promises.proofs.Demand3.{reads-back}
 use Rattle.promises.proofs.Box.{measured-admitted-d1, measured-is-d1, measured-misread}
@@ -95,9 +94,7 @@ module _ (s : Sheet) (cap d tried radius : ℕ) (e : measuresD1 s cap ≡ answer
       let noise : ℕ = f .3 in
       let heavy : weight noise ≡ radius + 1 =
       omega (arith, f .5, answered-d1 s cap d tried radius e .1, d1-some s (measured-is-d1 s cap d tried radius e)) in
-      let code = written-fits s w 0 0 x (f .1) (f .2) .word .code in
-      let back : x ≡ (x ⊕ noise) ⊕ noise = simp sums in
       let r =
-      near-read s (x ⊕ noise) (⊕-lt (s .n) x noise (code .cells) (f .4)) (radius + 1) (measured-admitted-d1 s cap d tried radius e)
-      (next-permitted s cap d tried radius e) noise (f .4) (subst (Codeword s) back code) (omega (arith, heavy)) in
+      disturbed-read s (measured-admitted-d1 s cap d tried radius e) x (written-fits s w 0 0 x (f .1) (f .2) .word .code) noise (radius + 1) (f .4)
+      (omega (arith, heavy)) (next-permitted s cap d tried radius e) in
       (x, f .1, f .2, noise, f .4, heavy, f .6, r .0, r .1, r .2, r .3)

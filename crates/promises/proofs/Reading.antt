@@ -17,7 +17,7 @@ use Rattle.paper.specs.Refusals.{answer, refusal}
 use Rattle.paper.specs.Sheet.{Sheet, H, M, Admitted, Codeword}
 use Rattle.paper.specs.Reading.{mostRadius, nearest, heard, reads}
 use Rattle.paper.specs.Promised.{Before, Nearest}
-use Rattle.words.proofs.Sums.{⊕-cancel, ⊕-lt}
+use Rattle.words.proofs.Sums.{sums, ⊕-cancel, ⊕-lt}
 use Rattle.listing.proofs.Searched.{found-first, missed-none, hit-found}
 use Rattle.promises.proofs.Tests.{not-below}
 use Rattle.rules.proofs.Rules.{not-told}
@@ -114,3 +114,10 @@ module _ (s : Sheet) (y : ℕ) (low : y < 2 ^ s .n) where
     near-read ok h u l c near =
         let f = hit-found hits (s .n) 0 (t + 1) u l (omega arith) (omega arith) (hits-all u c) in
         (products (M s) (y ⊕ f .0), f .0, f .1, reads-on s ok y t low h ∙ ap (heard s y) (f .2))
+
+-- so a codeword disturbed in at most t cells is read at radius t, as its own message or another
+pub disturbed-read : (s : Sheet) → Admitted s → (x : ℕ) → Codeword s x → (noise t : ℕ) → noise < 2 ^ s .n → ones noise ≤ t → t ≤ mostRadius
+    → (m : ℕ) × (z : ℕ) × (tried : ℕ) × (reads s (x ⊕ noise) t ≡ answer (m ∷ z ∷ tried ∷ []))
+disturbed-read s ok x c noise t low few h =
+    let back : x ≡ (x ⊕ noise) ⊕ noise = simp sums in
+    near-read s (x ⊕ noise) (⊕-lt (s .n) x noise (c .cells) low) t ok h noise low (subst (Codeword s) back c) few
