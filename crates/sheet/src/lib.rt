@@ -30,7 +30,7 @@ pub fn part(rows: &[Word], from: u32, count: u32) -> &[Word]
 }
 
 // "1 ≤ n ≤ 32, k ≥ 1, k + l ≤ n, the lent rows are n + k in number". n, k and l are any numbers: no sum is taken that could wrap.
-fn is_shaped(n: u32, k: u32, l: u32, rows: &[Word]) -> bool
+pub fn is_shaped(n: u32, k: u32, l: u32, rows: &[Word]) -> bool
     ensures { λ r. ⌜ r ≡ shaped (sheet n k l (now (rows .entry))) ⌝ }
 {
     if n < 1 {
@@ -52,8 +52,8 @@ fn is_shaped(n: u32, k: u32, l: u32, rows: &[Word]) -> bool
 }
 
 // The first row that "has a bit at cell n or above".
-fn find_stray(n: u32, rows: &[Word]) -> Place
-    requires { ⌜ (1 ≤ n) × (n ≤ width) × (length (now rows) < 2 ^ width) ⌝ }
+pub fn find_stray(n: u32, rows: &[Word]) -> Place
+    requires { ⌜ (n ≤ width) × (length (now rows) < 2 ^ width) ⌝ }
     ensures { λ r. ⌜ asFirst r ≡ first (length (now (rows .entry))) (λ i. leb (2 ^ n) (getD (now (rows .entry)) i 0)) ⌝ }
 {
     let mut i = 0;

@@ -76,12 +76,12 @@ pub fn lowest_of(x: Word) -> Place
     }
 }
 
-// Whether x is a word over n cells. The shift by n - 1 is below the width also where n is the width.
+// Whether x is a word over n cells. The shift by n - 1 is below the width also where n is the width; over no cells 0 is the only word.
 pub fn is_low(n: u32, x: Word) -> bool
-    requires { ⌜ (1 ≤ n) × (n ≤ width) ⌝ }
+    requires { ⌜ n ≤ width ⌝ }
     ensures { λ r. ⌜ r ≡ ltb x (2 ^ n) ⌝ }
 {
-    x >> (n - 1) <= 1
+    if n == 0 { x == 0 } else { x >> (n - 1) <= 1 }
 }
 
 // The word that is 1 at cell c alone.
