@@ -7,13 +7,14 @@ use mathlib.Core.List.{List, [], _∷_}
 use Prim.Native.Nat.{ℕ, _+_, _-_, _^_, _≤_, _<_, min}
 use lib.Bits.{bitAnd}
 use lib.ListN.{length, getD}
-use Rattle.paper.specs.Words.{weight, _⊕_}
+use Rattle.paper.specs.Words.{width, weight, _⊕_}
 use Rattle.paper.specs.Listing.{weights}
 use Rattle.paper.specs.Refusals.{answer, more}
-use Rattle.paper.specs.Sheet.{Sheet, Codeword, WordOf}
+use Rattle.paper.specs.Sheet.{Sheet, G1, G0, Codeword, WordOf}
 use Rattle.paper.specs.Writing.{wordOf, fits}
 use Rattle.paper.specs.Reading.{mostRadius}
 use Rattle.paper.specs.Plate.{Least, measuresD1}
+use Rattle.paper.specs.Tables.{builtG1, builtG0}
 
 -- stuck cells and levels that rule 8 does not refuse: all stuck cells below n, and a level only where a cell is stuck
 pub record Stuck (s : Sheet) (stuck levels : ℕ) : Type 0 where
@@ -71,3 +72,22 @@ pub data Printed (s : Sheet) (cap d radius : ℕ) : Type 0 where
 -- document 02, request 3: "the printed radius, held to 4"
 abbrev pub held : ℕ → ℕ
 held radius = min mostRadius radius
+
+-- document 02, request 4: "tables of the right sizes", with n, k and l as refusal 1 asks
+pub record Fits (n k l : ℕ) (P R Q : List ℕ) : Type 0 where
+  pub some-cells : 1 ≤ n
+  pub few-cells : n ≤ width
+  pub some-message : 1 ≤ k
+  pub space : k + l ≤ n
+  pub rows-P : length P ≡ k
+  pub rows-R : length R ≡ l
+  pub rows-Q : length Q ≡ l
+  pub columns-P : (i : ℕ) → i < k → getD P i 0 < 2 ^ (n - (k + l))
+  pub columns-R : (j : ℕ) → j < l → getD R j 0 < 2 ^ k
+  pub columns-Q : (j : ℕ) → j < l → getD Q j 0 < 2 ^ (n - (k + l))
+
+-- a sheet "whose G1 and G0 have that shape", with these tables
+pub record Systematic (s : Sheet) (P R Q : List ℕ) : Type 0 where
+  pub fits : Fits (s .n) (s .k) (s .l) P R Q
+  pub is-G1 : G1 s ≡ builtG1 (s .k) (s .l) P
+  pub is-G0 : G0 s ≡ builtG0 (s .k) (s .l) R Q

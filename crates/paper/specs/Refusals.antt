@@ -4,7 +4,7 @@ use mathlib.Core.List.{List, [], _∷_}
 use Prim.Native.Nat.{ℕ, _+_}
 use Rattle.paper.specs.First.{First, nowhere, at}
 use Rattle.paper.specs.declared.Refusal.{Refusal}
-use Rattle.paper.specs.declared.Refusal.the-variants.{Shape, Stray, OffCode, OffMessage, DependentG0, DependentH, Message, Stuck, NoWord, ReadWord, Limit, NoCodeword, Crowded, NoSlot, Record}
+use Rattle.paper.specs.declared.Refusal.the-variants.{Shape, Stray, OffCode, OffMessage, DependentG0, DependentH, Message, Stuck, NoWord, ReadWord, Limit, NoCodeword, Crowded, NoSlot, Record, OtherShape}
 use Rattle.paper.specs.declared.Admission.{Admission}
 use Rattle.paper.specs.declared.Admission.the-variants as Admission
 use Rattle.paper.specs.declared.Written.{Written}
@@ -15,6 +15,8 @@ use Rattle.paper.specs.declared.MeasuredD0.{MeasuredD0}
 use Rattle.paper.specs.declared.MeasuredD0.the-variants as MeasuredD0
 use Rattle.paper.specs.declared.MeasuredD1.{MeasuredD1}
 use Rattle.paper.specs.declared.MeasuredD1.the-variants as MeasuredD1
+use Rattle.paper.specs.declared.Outcome.{Outcome}
+use Rattle.paper.specs.declared.Outcome.the-variants as Outcome
 
 -- what a call tells: its values; for a measurement also "more than the cap" and its values; or a refusal's number and what is given with it
 pub data Told : Type 0 where
@@ -52,6 +54,7 @@ reason (NoCodeword tried) = giving 12 tried
 reason Crowded = bare 13
 reason NoSlot = bare 14
 reason (Record place) = giving 15 place
+reason OtherShape = bare 24
 
 -- "the refusal carries its reason"
 abbrev pub refused : Refusal → Told
@@ -83,6 +86,17 @@ abbrev pub measuredD1 : MeasuredD1 → Told
 measuredD1 (MeasuredD1.Distance d tried radius) = answer (d ∷ tried ∷ radius ∷ [])
 measuredD1 (MeasuredD1.More tried radius) = more (tried ∷ radius ∷ [])
 measuredD1 (MeasuredD1.Refused why) = refused why
+
+-- what a call tells whose answer stands in the rooms that it was lent
+abbrev pub outcome : Outcome → Told
+outcome Outcome.Done = answer []
+outcome (Outcome.Refused why) = refused why
+
+-- what such a room holds after a call that told this, `new` being what an answer puts there: "A refused call, here and below, changes nothing lent"
+abbrev pub leaves : Told → List ℕ → List ℕ → List ℕ
+leaves (answer values) new old = new
+leaves (more values) new old = old
+leaves (refusal number given) new old = old
 
 -- "Each refusal is given exactly when its reason holds and no earlier one in the call's order does": a rule that holds passes to the next
 abbrev pub unless : Bool → ℕ → Told → Told

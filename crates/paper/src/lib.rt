@@ -46,6 +46,7 @@ pub enum Refusal {
     Crowded,
     NoSlot,
     Record { place: usize },
+    OtherShape,
 }
 
 // What admitting a sheet answers.
@@ -81,5 +82,11 @@ pub enum MeasuredD0 {
 pub enum MeasuredD1 {
     Distance { d: u32, tried: Count, radius: u32 },
     More { tried: Count, radius: u32 },
+    Refused(Refusal),
+}
+
+// What a call answers whose answer stands in the rooms that it was lent: that it is done.
+pub enum Outcome {
+    Done,
     Refused(Refusal),
 }

@@ -3,3 +3,4 @@ pub mod Rules
 pub mod Chains
 pub mod Stages
 pub mod Reasons
+pub mod Rooms

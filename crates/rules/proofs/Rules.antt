@@ -2,7 +2,7 @@
 -- only that what is told is not told by the rule itself. For the verdict on a sheet, the order of refusals, and the code that follows it. Assumes nothing.
 use mathlib.Core.Path.{_≡_, refl, sym, ap, _∙_}
 use mathlib.Core.Bool.{Bool, true, false, true≢false}
-use mathlib.Core.Logic.{_↔_}
+use mathlib.Core.Logic.{_⊎_, inl, inr, _↔_}
 use mathlib.Core.List.{List, [], _∷_}
 use Prim.Native.Nat.{ℕ, _+_, _≤_}
 use native.Mathlib.Nat.{zero-add}
@@ -73,6 +73,19 @@ module _ (number : ℕ) (next : Told) where
   own-at (at j) base i c q h = (
     λ e. let p : base + j ≡ c = cc in ap at (omega arith),
     λ e. let p : j ≡ i = cc in ap (λ (x : ℕ). refusal number (x ∷ [])) (omega arith),
+  )
+
+  -- where one after it may tell the same: this rule is broken, or it is passed and a later one is
+  pub own-or : (test : Bool) → (unless test number next ≡ refusal number []) ↔ ((test ≡ false) ⊎ ((test ≡ true) × (next ≡ refusal number [])))
+  own-or true = (λ e. inr (refl, e), λ p. elim p [ inl e ↦ absurd (true≢false e) | inr q ↦ q .1 ])
+  own-or false = (λ e. inl refl, λ p. refl)
+
+  pub own-at-or : (place : First) (base c : ℕ) → (unlessAt place number base next ≡ refusal number (c ∷ []))
+      ↔ (((i : ℕ) × (place ≡ at i) × (base + i ≡ c)) ⊎ ((place ≡ nowhere) × (next ≡ refusal number (c ∷ []))))
+  own-at-or nowhere base c = (λ e. inr (refl, e), λ p. elim p [ inl q ↦ at-nowhere (q .1) refl | inr q ↦ q .1 ])
+  own-at-or (at j) base c = (
+    λ e. inl (j, refl, cc),
+    λ p. elim p [ inl q ↦ (let z : j ≡ q .0 = cc (q .1) in ap (λ (x : ℕ). refusal number (x ∷ [])) (omega (arith, q .2))) | inr q ↦ at-nowhere refl (q .0) ],
   )
 
   -- ---- how the code follows the order: a rule that is broken refuses, and one that is kept leaves it to the next

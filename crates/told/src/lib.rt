@@ -1,12 +1,13 @@
 // What the calls tell, as one struct of numbers: for the console, and for C, where an enum cannot pass.
 ghost use mathlib.Core.Path.{_≡_};
 ghost use mathlib.Core.List.{[], _∷_};
-ghost use Rattle.paper.specs.Refusals.{answer, more, refusal, refused, admission, written, reading, measuredD0, measuredD1};
+ghost use Rattle.paper.specs.Refusals.{answer, more, refusal, refused, admission, written, reading, measuredD0, measuredD1, outcome};
 ghost use Rattle.told.specs.Telling.{tells};
 use paper::Admission;
 use paper::Count;
 use paper::MeasuredD0;
 use paper::MeasuredD1;
+use paper::Outcome;
 use paper::Reading;
 use paper::Refusal;
 use paper::Word;
@@ -197,6 +198,7 @@ pub fn of_refusal(why: Refusal) -> Numbers
         Refusal::Crowded => bare(13),
         Refusal::NoSlot => bare(14),
         Refusal::Record { place } => giving_index(15, place),
+        Refusal::OtherShape => bare(24),
     }
 }
 
@@ -249,5 +251,15 @@ pub fn of_d1(answer: MeasuredD1) -> Numbers
         MeasuredD1::Distance { d, tried, radius } => of_plate(d, tried, radius),
         MeasuredD1::More { tried, radius } => more_plate(tried, radius),
         MeasuredD1::Refused(why) => of_refusal(why),
+    }
+}
+
+// What a call tells whose answer stands in lent rooms.
+pub fn of_outcome(answer: Outcome) -> Numbers
+    ensures { λ r. ⌜ tells r ≡ outcome answer ⌝ }
+{
+    match answer {
+        Outcome::Done => done(),
+        Outcome::Refused(why) => of_refusal(why),
     }
 }
