@@ -4,7 +4,7 @@ use mathlib.Core.Path.{_≡_, refl, sym, ap, _∙_, subst}
 use mathlib.Core.Bool.{Bool, true, false, cond, not, _&&_, true≢false, and-eq-true-iff}
 use mathlib.Core.Logic.{_↔_, Iff·rfl}
 use mathlib.Core.List.{List, [], _∷_}
-use Prim.Native.Nat.{ℕ, suc, _+_, _^_, _≤_, _<_}
+use Prim.Native.Nat.{ℕ, zero, suc, _+_, _^_, _≤_, _<_}
 use native.Mathlib.Decide.{ℕ-discrete}
 use native.Mathlib.Omega.{arith}
 use borrow.Author.Tests.{leb-true, leb-false, eqb-true, eq-eqb, ne-eqb}
@@ -66,7 +66,7 @@ through s next t h e =
     (record { shape = a .0; strays = b .0; codes = c .0; messages = d .0; sums-G0 = f .0; sums-H = g .0 }, g .1)
 
 -- and a sheet that passes them passes to what comes next
-passed-next : (s : Sheet) → Passed s → (next : Told) → judged s next ≡ next
+pub passed-next : (s : Sheet) → Passed s → (next : Told) → judged s next ≡ next
 unfolding judged judgedRows judgedSums
 passed-next s p next = rw (p .shape, p .strays, p .codes, p .messages, p .sums-G0, p .sums-H)
 
@@ -128,10 +128,15 @@ shaped-facts s e =
       all-rows = eqb-true (length (s .rows)) (s .n + s .k) (p .1);
     }
 
--- a property of each row by its number
+-- a property of each row by its number, and back
 all-get : (P : ℕ → Type 0) (rows : List ℕ) → ((i : ℕ) → i < length rows → P (getD rows i 0)) → All P rows
 all-get P [] h = tt
 all-get P (g ∷ gs) h = (h 0 (omega arith), all-get P gs (λ i l. h (suc i) (omega arith)))
+
+pub all-at : (P : ℕ → Type 0) (rows : List ℕ) → All P rows → (i : ℕ) → i < length rows → P (getD rows i 0)
+all-at P [] a i h = absurd (omega arith)
+all-at P (g ∷ gs) a zero h = a .0
+all-at P (g ∷ gs) a (suc i) h = all-at P gs (a .1) i (omega arith)
 
 -- the rows of a part, by their numbers in the whole
 module _ (rows : List ℕ) (from count : ℕ) (inside : from + count ≤ length rows) where
@@ -158,25 +163,29 @@ on own gs others i j e l = go (eqb (product (getD gs i 0) (getD others j 0)) (wa
 own-wanted : (own i : ℕ) → wanted own i i ≡ own
 own-wanted own i = ap (λ (b : Bool). cond b own 0) (eq-eqb i i refl)
 
-no-wanted : (own i j : ℕ) → (i ≡ j → ⊥) → wanted own i j ≡ 0
+pub no-wanted : (own i j : ℕ) → (i ≡ j → ⊥) → wanted own i j ≡ 0
 no-wanted own i j n = ap (λ (b : Bool). cond b own 0) (ne-eqb i j n)
 
-zero-wanted : (i j : ℕ) → wanted 0 i j ≡ 0
+pub zero-wanted : (i j : ℕ) → wanted 0 i j ≡ 0
 zero-wanted i j = go (eqb i j)
   where
     go : (b : Bool) → _≡_ {A = ℕ} (cond b 0 0) 0
     go true = refl
     go false = refl
 
+-- own is 1: the cells of the word that is 1 at cell i alone
+pub unit-wanted : (i j : ℕ) → wanted 1 i j ≡ cell (2 ^ i) j
+unit-wanted i j = go (ℕ-discrete i j)
+  where
+    go : Dec (i ≡ j) → wanted 1 i j ≡ cell (2 ^ i) j
+    go (yes q) = subst (λ (m : ℕ). wanted 1 i m ≡ cell (2 ^ i) m) q (own-wanted 1 i ∙ sym (cell-unit i))
+    go (no n) = no-wanted 1 i j n ∙ sym (cell-unit-other i j n)
+
 -- a word whose product with row j is 1 for j = i alone, or for none
 products-only : (rows : List ℕ) (x i : ℕ) → i < length rows → ((j : ℕ) → j < length rows → product x (getD rows j 0) ≡ wanted 1 i j)
     → products rows x ≡ 2 ^ i
 products-only rows x i h e =
-    ext (length rows) (products-lt rows x) (pow-lt h) (λ j l. cell-products rows x j ∙ product-comm (getD rows j 0) x ∙ e j l ∙ at-cell j (ℕ-discrete i j))
-  where
-    at-cell : (j : ℕ) → Dec (i ≡ j) → wanted 1 i j ≡ cell (2 ^ i) j
-    at-cell j (yes q) = subst (λ (m : ℕ). wanted 1 i m ≡ cell (2 ^ i) m) q (own-wanted 1 i ∙ sym (cell-unit i))
-    at-cell j (no n) = no-wanted 1 i j n ∙ sym (cell-unit-other i j n)
+    ext (length rows) (products-lt rows x) (pow-lt h) (λ j l. cell-products rows x j ∙ product-comm (getD rows j 0) x ∙ e j l ∙ unit-wanted i j)
 
 products-none : (rows : List ℕ) (x : ℕ) → ((j : ℕ) → j < length rows → product x (getD rows j 0) ≡ 0) → products rows x ≡ 0
 products-none rows x e =

@@ -1,0 +1,2 @@
+-- How many rows the tables have, as facts.
+pub mod Counts

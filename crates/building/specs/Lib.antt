@@ -1,0 +1,2 @@
+-- The rows of a built sheet, one by one.
+pub mod Rows
