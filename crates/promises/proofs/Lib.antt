@@ -19,3 +19,8 @@ pub mod PageRecords
 pub mod PageDemands
 pub mod PageRepeats
 pub mod PageBench
+pub mod Alike
+pub mod TableOrder
+pub mod Tables
+pub mod TablePinned
+pub mod TableBench

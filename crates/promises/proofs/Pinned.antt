@@ -4,7 +4,7 @@ use mathlib.Core.Path.{_≡_, refl, sym, ap, _∙_}
 use mathlib.Core.List.{List}
 use Prim.Native.Nat.{ℕ}
 use lib.ListN.{getD}
-use Rattle.paper.specs.Refusals.{Told, answer, more, refusal, admission, written, reading, measuredD0, measuredD1}
+use Rattle.paper.specs.Refusals.{Told, answer, more, refusal, admission, written, reading, measuredD0, measuredD1, outcome}
 use Rattle.paper.specs.Sheet.{Sheet, admits}
 use Rattle.paper.specs.Writing.{writes}
 use Rattle.paper.specs.Reading.{reads}
@@ -19,6 +19,8 @@ use Rattle.paper.specs.declared.MeasuredD0.{MeasuredD0}
 use Rattle.paper.specs.declared.MeasuredD0.the-variants as MeasuredD0
 use Rattle.paper.specs.declared.MeasuredD1.{MeasuredD1}
 use Rattle.paper.specs.declared.MeasuredD1.the-variants as MeasuredD1
+use Rattle.paper.specs.declared.Outcome.{Outcome}
+use Rattle.paper.specs.declared.Outcome.the-variants as Outcome
 use Rattle.rules.proofs.Reasons.{reasonOf, told-back}
 
 -- a result can be told back from what is told of it
@@ -54,6 +56,11 @@ measuredD1-back (answer values) = MeasuredD1.Distance (at values 0) (at values 1
 measuredD1-back (more values) = MeasuredD1.More (at values 0) (at values 1)
 measuredD1-back (refusal number given) = MeasuredD1.Refused (reasonOf number given)
 
+outcome-back : Told → Outcome
+outcome-back (answer values) = Outcome.Done
+outcome-back (more values) = Outcome.Done
+outcome-back (refusal number given) = Outcome.Refused (reasonOf number given)
+
 admission-told : (a : Admission) → admission-back (admission a) ≡ a
 unfolding admission-back
 admission-told Admission.Admitted = refl
@@ -69,12 +76,20 @@ unfolding reading-back
 reading-told (Reading.Message message z tried) = refl
 reading-told (Reading.Refused why) = ap Reading.Refused (told-back why)
 
--- so for writing and reading, whatever is told
+outcome-told : (a : Outcome) → outcome-back (outcome a) ≡ a
+unfolding outcome-back
+outcome-told Outcome.Done = refl
+outcome-told (Outcome.Refused why) = ap Outcome.Refused (told-back why)
+
+-- so for writing, reading and calls that answer in lent rooms, whatever is told
 pub written-once : (t : Told) (a b : Written) → written a ≡ t → written b ≡ t → a ≡ b
 written-once = same written written-back written-told
 
 pub reading-once : (t : Told) (a b : Reading) → reading a ≡ t → reading b ≡ t → a ≡ b
 reading-once = same reading reading-back reading-told
+
+pub outcome-once : (t : Told) (a b : Outcome) → outcome a ≡ t → outcome b ≡ t → a ≡ b
+outcome-once = same outcome outcome-back outcome-told
 
 measuredD0-told : (a : MeasuredD0) → measuredD0-back (measuredD0 a) ≡ a
 unfolding measuredD0-back
