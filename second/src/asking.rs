@@ -1,6 +1,6 @@
 //! Calls at random, as lines of the protocol: good ones, and ones with odd arguments.
 
-use crate::making::{sheet_of_shape, some_sheet};
+use crate::making::{sheet_of_numbers, some_sheet};
 use crate::random::Random;
 use crate::sheet::{sum_of, Sheet};
 
@@ -73,8 +73,23 @@ pub fn call_text(verb: Verb, sheet: &Sheet, arguments: &[u32]) -> String {
 
 /// A line of the protocol: a verb, a sheet and the numbers after it.
 pub fn line_text(verb: &str, sheet: &Sheet, arguments: &[u32]) -> String {
-    let head = [sheet.n, sheet.k, sheet.l, sheet.rows.len() as u32];
-    let numbers = head.iter().chain(&sheet.rows).chain(arguments);
+    let head = [sheet.n, sheet.k, sheet.l];
+    numbers_text(verb, &[&head, &list(&sheet.rows)[..], arguments].concat())
+}
+
+/// Any number: a small one, the largest, or any at all.
+pub fn some_number(random: &mut Random) -> u32 {
+    let any = random.word(32);
+    random.one_of(&[0, 1, 3, 9, 10, u32::MAX, any])
+}
+
+/// LIST as its numbers: the count, then the entries.
+pub fn list(entries: &[u32]) -> Vec<u32> {
+    [&[entries.len() as u32], entries].concat()
+}
+
+/// A line of the protocol: a verb and numbers.
+pub fn numbers_text(verb: &str, numbers: &[u32]) -> String {
     let mut line = verb.to_string();
     for number in numbers {
         line.push(' ');
@@ -235,7 +250,7 @@ pub fn far_sheet(random: &mut Random, verb: Verb, n: u32) -> Sheet {
     let k = random.between(1, 2);
     let few = random.between(0, (n - k) / 4);
     let l = if verb == Verb::D0 { n - k - few } else { few };
-    sheet_of_shape(random, n, k, l)
+    sheet_of_numbers(random, n, k, l)
 }
 
 #[cfg(test)]

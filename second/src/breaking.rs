@@ -4,10 +4,15 @@ use crate::making::some_sheet;
 use crate::random::Random;
 use crate::sheet::{sum_of, Sheet};
 
-/// A sheet with a fault in its numbers, in one row, in several rows, or in both; a fault
-/// may happen to leave the sheet admitted.
+/// A sheet with faults.
 pub fn broken_sheet(random: &mut Random) -> Sheet {
-    let mut sheet = some_sheet(random);
+    let sheet = some_sheet(random);
+    broken(random, sheet)
+}
+
+/// An admitted sheet with a fault put in its numbers, in one row, in several rows, or in
+/// both; a fault may happen to leave it admitted.
+pub fn broken(random: &mut Random, mut sheet: Sheet) -> Sheet {
     let faults = match random.below(10) {
         0 | 1 => 0,
         2..=6 => 1,
@@ -30,7 +35,7 @@ fn break_row(random: &mut Random, sheet: &mut Sheet) {
     let all = sheet.rows.len();
     let (g1, g0, h, m) = (0..k, k..k + l, k + l..all - k, all - k..all);
     match random.below(15) {
-        0 | 1 => stray_bit(random, sheet),
+        0 | 1 => stray_bit(random, &mut sheet.rows, sheet.n),
         2 => flip_bit(random, sheet, 0..all),
         3 => flip_bit(random, sheet, 0..k + l),
         4 => flip_bit(random, sheet, h),
@@ -59,13 +64,14 @@ fn some_row(random: &mut Random, rows: &std::ops::Range<usize>) -> usize {
     rows.start + random.below(rows.len() as u64) as usize
 }
 
-/// Refusal 2: a bit at cell n or above in some row; at n = 32 there is none to set.
-fn stray_bit(random: &mut Random, sheet: &mut Sheet) {
-    if sheet.n < 32 {
-        let any = random.between(sheet.n, 31);
-        let cell = random.one_of(&[sheet.n, any, 31]);
-        let row = random.below(sheet.rows.len() as u64) as usize;
-        sheet.rows[row] |= 1 << cell;
+/// Refusal 2: a bit in one of these rows at a cell at or above so many; where there is no
+/// row, or no such cell, nothing is set.
+pub fn stray_bit(random: &mut Random, rows: &mut [u32], cells: u32) {
+    if cells < 32 && !rows.is_empty() {
+        let any = random.between(cells, 31);
+        let cell = random.one_of(&[cells, any, 31]);
+        let row = some_row(random, &(0..rows.len()));
+        rows[row] |= 1 << cell;
     }
 }
 
@@ -102,8 +108,8 @@ fn add_g1_row(random: &mut Random, sheet: &mut Sheet) {
     sheet.rows[row] ^= sheet.rows[added];
 }
 
-/// Refusal 1 mostly: n, k, l or the number of rows not as asked.
-fn break_numbers(random: &mut Random, sheet: &mut Sheet) {
+/// Refusal 1 mostly: n, k, l or the number of rows, which are right ones, not as asked.
+pub fn break_numbers(random: &mut Random, sheet: &mut Sheet) {
     match random.below(14) {
         0 => sheet.n = random.one_of(&[0, 33, 64, 1 << 31, u32::MAX]),
         1 => sheet.n = sheet.n.wrapping_add(random.one_of(&[1, u32::MAX])),

@@ -10,7 +10,8 @@ use crate::sums::{equation, smallest_d};
 /// Up to this l every d is tried from 0 up; above it the equations are eliminated.
 const EVERY_D_UP_TO_L: usize = 20;
 
-/// What a call answers when it does not refuse.
+/// What a call answers when it does not refuse; of a call that fills lent rooms, that it
+/// has done so.
 #[derive(Clone, Copy, Debug, PartialEq, Eq)]
 pub enum Answer {
     Admitted,
@@ -18,6 +19,7 @@ pub enum Answer {
     Message { message: u32, z: u32, tried: u32 },
     D0(Measured),
     D1 { measured: Measured, radius: u32 },
+    Done,
 }
 
 /// A measurement: the distance, or none where it is more than the cap, and the tried.

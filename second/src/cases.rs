@@ -1,5 +1,5 @@
-//! Cases repeatable from a seed: good calls, on pages and not, calls with broken sheets or
-//! odd arguments, and lines that are no calls.
+//! Cases repeatable from a seed: good calls, on pages, about tables and neither, calls with
+//! broken sheets or odd arguments, and lines that are no calls.
 
 use crate::asking::{any_call, call_text, far_sheet, good_call, Verb};
 use crate::breaking::broken_sheet;
@@ -7,6 +7,7 @@ use crate::making::some_sheet;
 use crate::noise::noise_line;
 use crate::paging::page_call;
 use crate::random::Random;
+use crate::tabling::table_call;
 use std::io::{self, Write};
 
 /// One call in so many is a measurement that may go through millions of words.
@@ -27,28 +28,30 @@ pub fn print_cases(seed: u64, count: u64, mut output: impl Write) -> io::Result<
     output.flush()
 }
 
-/// One line of any kind; of the calls one in three is a page call.
+/// One line of any kind; of the calls one in eight is about tables, and of the others one
+/// in three is a page call.
 fn case_line(random: &mut Random) -> Vec<u8> {
     let paged = random.once_in(3);
     match random.below(100) {
         0..=8 => noise_line(random),
-        9..=32 if paged => {
+        9..=19 => table_call(random).into_bytes(),
+        20..=41 if paged => {
             let sheet = broken_sheet(random);
             let odd = random.once_in(3);
             page_call(random, &sheet, odd).into_bytes()
         }
-        33..=99 if paged => {
+        42..=99 if paged => {
             let sheet = some_sheet(random);
             let odd = random.once_in(2);
             page_call(random, &sheet, odd).into_bytes()
         }
-        9..=32 => {
+        20..=41 => {
             let sheet = broken_sheet(random);
             let verb = random.one_of(&Verb::ALL);
             let odd = random.once_in(3);
             any_call(random, verb, &sheet, odd).into_bytes()
         }
-        33..=50 => {
+        42..=57 => {
             let sheet = some_sheet(random);
             let verb = random.one_of(&Verb::ALL[1..]);
             any_call(random, verb, &sheet, true).into_bytes()

@@ -3,11 +3,15 @@
 use crate::calls::{admitting, d0, d1, read, write, Answer, Measured};
 use crate::page::{page_read, page_write, Record};
 use crate::sheet::{Refusal, Sheet};
+use crate::tables::{to_sheet, to_tables};
 use std::io::{self, BufRead, Write};
 
 /// The room of the console for a line, its end not counted: a longer line is no call.
 /// A list may have any length that fits.
 pub const ROOM_FOR_LINE: usize = 131_071;
+
+/// The largest size that the place of a room's size holds.
+pub const MOST_OF_A_ROOM: u32 = 4_096;
 
 /// What a line is answered that is no call.
 const UNKNOWN: &str = "unknown";
@@ -52,6 +56,9 @@ fn answer_call(line: &[u8]) -> Option<String> {
     let mut tokens = line.split(|byte| *byte == b' ');
     let verb = tokens.next()?;
     let numbers: Vec<u32> = tokens.map(number).collect::<Option<_>>()?;
+    if verb == b"tosheet" {
+        return making_a_sheet(&numbers);
+    }
     let (sheet, rest) = sheet_and_rest(&numbers)?;
     let result = match (verb, rest) {
         (b"admit", []) => admitting(&sheet),
@@ -61,6 +68,7 @@ fn answer_call(line: &[u8]) -> Option<String> {
         (b"d1", [cap]) => d1(&sheet, *cap),
         (b"pread", [_, rest @ ..]) => page_reading(&sheet, rest)?,
         (b"pwrite", [_, rest @ ..]) => return page_writing(&sheet, rest),
+        (b"totables", rest) => return giving_tables(&sheet, rest),
         _ => return None,
     };
     Some(result_text(result))
@@ -85,7 +93,37 @@ fn page_writing(sheet: &Sheet, numbers: &[u32]) -> Option<String> {
     };
     let mut page = page.to_vec();
     let result = page_write(sheet, &mut page, &records, *slot, *message);
-    Some(format!("{} page {}", result_text(result), list_text(&page)))
+    Some(lent_text(result, ["page"], &[page]))
+}
+
+/// `tosheet`: n, k and l, the tables P, R and Q, and the room for the sheet. Its answer,
+/// also a refusal, ends with what the room holds after the call.
+fn making_a_sheet(numbers: &[u32]) -> Option<String> {
+    let [n, k, l, rest @ ..] = numbers else {
+        return None;
+    };
+    let (p, rest) = list_and_rest(rest)?;
+    let (r, rest) = list_and_rest(rest)?;
+    let (q, rest) = list_and_rest(rest)?;
+    let (mut room, []) = room_and_rest(rest)? else {
+        return None;
+    };
+    let tables = [p, r, q].map(<[u32]>::to_vec);
+    let result = to_sheet([*n, *k, *l], &tables, &mut room);
+    Some(lent_text(result, ["room"], &[room]))
+}
+
+/// `totables` after the sheet: the rooms for P, R and Q. Its answer, also a refusal, ends
+/// with what the rooms hold after the call.
+fn giving_tables(sheet: &Sheet, numbers: &[u32]) -> Option<String> {
+    let (p, rest) = room_and_rest(numbers)?;
+    let (r, rest) = room_and_rest(rest)?;
+    let (q, []) = room_and_rest(rest)? else {
+        return None;
+    };
+    let mut rooms = [p, r, q];
+    let result = to_tables(sheet, &mut rooms);
+    Some(lent_text(result, ["P", "R", "Q"], &rooms))
 }
 
 /// A number token: one or more decimal digits whose value 32 bits can hold.
@@ -145,6 +183,29 @@ fn records_and_rest(numbers: &[u32]) -> Option<(Vec<Record>, &[u32])> {
     Some((records, rest))
 }
 
+/// ROOM: a size and a fill, as lent memory of so many entries, each with this fill; then
+/// the numbers that are left. A size that its place cannot hold makes the line no call.
+fn room_and_rest(numbers: &[u32]) -> Option<(Vec<u32>, &[u32])> {
+    let [size, fill, rest @ ..] = numbers else {
+        return None;
+    };
+    let room = || vec![*fill; *size as usize];
+    (*size <= MOST_OF_A_ROOM).then(|| (room(), rest))
+}
+
+/// An answer or a refusal, and after it each list of lent memory behind its name.
+fn lent_text<const N: usize>(
+    result: Result<Answer, Refusal>,
+    names: [&str; N],
+    lists: &[Vec<u32>; N],
+) -> String {
+    let mut text = result_text(result);
+    for (name, list) in names.iter().zip(lists) {
+        text.push_str(&format!(" {name} {}", list_text(list)));
+    }
+    text
+}
+
 /// An answer or a refusal.
 fn result_text(result: Result<Answer, Refusal>) -> String {
     match result {
@@ -153,7 +214,7 @@ fn result_text(result: Result<Answer, Refusal>) -> String {
     }
 }
 
-/// LIST, of a page.
+/// LIST, of a page or a room.
 fn list_text(numbers: &[u32]) -> String {
     let tokens = std::iter::once(numbers.len().to_string())
         .chain(numbers.iter().map(u32::to_string))
@@ -177,6 +238,7 @@ fn answer_text(answer: Answer) -> String {
         Answer::Message { message, z, tried } => format!("message {message} z {z} tried {tried}"),
         Answer::D0(measured) => measured_text(measured),
         Answer::D1 { measured, radius } => format!("{} radius {radius}", measured_text(measured)),
+        Answer::Done => "done".to_string(),
     }
 }
 

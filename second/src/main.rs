@@ -1,11 +1,12 @@
 //! The second program: it answers the calls of the name store on its own, straight from
-//! the definitions of document 01 and requests 1 and 3, and makes cases on which the two
-//! are compared.
+//! the definitions of document 01 and requests 1, 3 and 4, and makes cases on which the
+//! two are compared.
 
 mod asking;
 mod breaking;
 mod calls;
 mod cases;
+mod every;
 mod lines;
 mod listing;
 mod making;
@@ -13,9 +14,14 @@ mod noise;
 mod page;
 mod paging;
 mod random;
+mod roomnoise;
 mod sheet;
 mod small;
+mod smalltables;
 mod sums;
+mod tables;
+mod tabling;
+mod tokens;
 
 use std::io::{self, BufReader, BufWriter};
 use std::process::ExitCode;

@@ -1,10 +1,10 @@
-//! Admitted sheets at random, of every shape.
+//! Admitted sheets at random, of every n, k and l, and the tables that they begin with.
 //!
 //! A sheet begins in the form G1 = [I 0 P], G0 = [R I Q], M = [I R^T 0],
 //! H = [P^T (Q + RP)^T I], which meets every rule; steps that keep the rules mix it.
 
 use crate::random::Random;
-use crate::sheet::{sum_of, Sheet};
+use crate::sheet::{sum_of, Sheet, Tables};
 
 /// The four groups of rows of a sheet in the making.
 struct Groups {
@@ -14,10 +14,28 @@ struct Groups {
     m: Vec<u32>,
 }
 
-/// A random admitted sheet of a random shape.
+/// A step that keeps a sheet admitted.
+type Step = fn(&mut Random, &mut Groups);
+
+/// A random admitted sheet with random n, k and l.
 pub fn random_sheet(random: &mut Random) -> Sheet {
-    let (n, k, l) = random_shape(random);
-    sheet_of_shape(random, n, k, l)
+    let (n, k, l) = random_numbers(random);
+    sheet_of_numbers(random, n, k, l)
+}
+
+/// A random admitted sheet whose G1 and G0 have the shape that they began with; its H and
+/// M are those of the first form, or others.
+pub fn shaped_sheet(random: &mut Random) -> Sheet {
+    let (n, k, l) = random_numbers(random);
+    let steps = random.one_of(&[0, 1, 4 * n]);
+    stepped(random, [n, k, l], steps, mix_checks)
+}
+
+/// A random admitted sheet that is few steps from its first form.
+pub fn near_sheet(random: &mut Random) -> Sheet {
+    let (n, k, l) = random_numbers(random);
+    let steps = random.between(1, 3);
+    stepped(random, [n, k, l], steps, mix)
 }
 
 /// The kitchen sheet or the attic sheet now and then, else a random admitted one.
@@ -45,7 +63,7 @@ pub fn attic() -> Sheet {
 
 /// n from 1 to 32, k from 1, and l with k + l at most n; l = 0, r = 0, small k and the
 /// widest sheets come more often than the others.
-fn random_shape(random: &mut Random) -> (u32, u32, u32) {
+pub fn random_numbers(random: &mut Random) -> (u32, u32, u32) {
     let n = match random.below(8) {
         0 => random.between(31, 32),
         1 => random.between(1, 4),
@@ -67,38 +85,50 @@ fn random_shape(random: &mut Random) -> (u32, u32, u32) {
 }
 
 /// A random admitted sheet with these numbers.
-pub fn sheet_of_shape(random: &mut Random, n: u32, k: u32, l: u32) -> Sheet {
-    let mut groups = systematic(random, n, k, l);
+pub fn sheet_of_numbers(random: &mut Random, n: u32, k: u32, l: u32) -> Sheet {
     let steps = random.one_of(&[0, n, 4 * n, 8 * n]);
-    for _ in 0..steps {
-        mix(random, &mut groups);
-    }
-    let mut rows = [groups.g1, groups.g0, groups.h, groups.m].concat();
+    let mut sheet = stepped(random, [n, k, l], steps, mix);
     if !random.once_in(6) {
-        permute_cells(random, n, &mut rows);
+        permute_cells(random, n, &mut sheet.rows);
     }
+    sheet
+}
+
+/// A sheet with these n, k and l that has gone so many steps from its first form.
+fn stepped(random: &mut Random, nkl: [u32; 3], steps: u32, step: Step) -> Sheet {
+    let [n, k, l] = nkl;
+    let tables = random_tables(random, n, k, l);
+    let mut groups = systematic(n, k, l, &tables);
+    for _ in 0..steps {
+        step(random, &mut groups);
+    }
+    let rows = [groups.g1, groups.g0, groups.h, groups.m].concat();
     Sheet { n, k, l, rows }
 }
 
-/// The sheet's first form with random P, R and Q; bit c of their rows is column c.
-fn systematic(random: &mut Random, n: u32, k: u32, l: u32) -> Groups {
+/// Random tables P, R and Q for these numbers; bit c of their rows is column c.
+pub fn random_tables(random: &mut Random, n: u32, k: u32, l: u32) -> Tables {
     let r = n - k - l;
-    let p = table(random, k, r);
-    let big_r = table(random, l, k);
-    let q = table(random, l, r);
+    [(k, r), (l, k), (l, r)].map(|(rows, columns)| table(random, rows, columns))
+}
+
+/// The sheet's first form, of these tables.
+fn systematic(n: u32, k: u32, l: u32, tables: &Tables) -> Groups {
+    let [p, big_r, q] = tables;
+    let r = n - k - l;
     let unit = |cell: usize| 1u32 << cell;
     let (k, l) = (k as usize, l as usize);
-    let s: Vec<u32> = (0..l).map(|j| q[j] ^ sum_of(&p, big_r[j])).collect();
+    let s: Vec<u32> = (0..l).map(|j| q[j] ^ sum_of(p, big_r[j])).collect();
     Groups {
         g1: (0..k).map(|i| unit(i) | shifted(p[i], k + l)).collect(),
         g0: (0..l)
             .map(|j| big_r[j] | unit(k + j) | shifted(q[j], k + l))
             .collect(),
         h: (0..r as usize)
-            .map(|c| column(&p, c) | shifted(column(&s, c), k) | unit(k + l + c))
+            .map(|c| column(p, c) | shifted(column(&s, c), k) | unit(k + l + c))
             .collect(),
         m: (0..k)
-            .map(|i| unit(i) | shifted(column(&big_r, i), k))
+            .map(|i| unit(i) | shifted(column(big_r, i), k))
             .collect(),
     }
 }
@@ -126,7 +156,7 @@ fn column(rows: &[u32], c: usize) -> u32 {
 }
 
 /// One step that keeps a sheet admitted: a change of basis of G1 with M kept dual to
-/// it, of G0 or of H, a row of G0 added to G1, or a row of H added to M.
+/// it, or of G0, a row of G0 added to G1, or a step of H or M.
 fn mix(random: &mut Random, groups: &mut Groups) {
     match random.below(5) {
         0 => {
@@ -138,10 +168,16 @@ fn mix(random: &mut Random, groups: &mut Groups) {
         2 => {
             add_one_to_another(random, &mut groups.g0);
         }
-        3 => {
-            add_one_to_another(random, &mut groups.h);
-        }
-        _ => add_from(random, &mut groups.m, &groups.h),
+        _ => mix_checks(random, groups),
+    }
+}
+
+/// One step that keeps G1 and G0 too: a change of basis of H, or a row of H added to M.
+fn mix_checks(random: &mut Random, groups: &mut Groups) {
+    if random.once_in(2) {
+        add_one_to_another(random, &mut groups.h);
+    } else {
+        add_from(random, &mut groups.m, &groups.h);
     }
 }
 
@@ -179,7 +215,8 @@ fn permute_cells(random: &mut Random, n: u32, rows: &mut [u32]) {
 #[cfg(test)]
 mod tests {
     use super::*;
-    use crate::sheet::admit;
+    use crate::sheet::{admit, bare};
+    use crate::tables::{to_sheet, to_tables};
 
     /// Every sheet made is admitted, and every n, l = 0, r = 0 and k = 32 come up.
     #[test]
@@ -197,5 +234,48 @@ mod tests {
         }
         assert!(seen[1..].iter().all(|times| *times > 0));
         assert!(no_l > 0 && no_r > 0 && widest > 0);
+    }
+
+    /// The first form of a sheet, made from whole words, is the one that the call makes
+    /// entry by entry.
+    #[test]
+    fn first_form_is_that_of_the_call() {
+        let mut random = Random::new(32);
+        for _ in 0..3000 {
+            let (n, k, l) = random_numbers(&mut random);
+            let tables = random_tables(&mut random, n, k, l);
+            let form = systematic(n, k, l, &tables);
+            let mut room = vec![u32::MAX; (n + k) as usize];
+            assert!(to_sheet([n, k, l], &tables, &mut room).is_ok());
+            assert_eq!(room, [form.g1, form.g0, form.h, form.m].concat());
+        }
+    }
+
+    /// Sheets that keep the shape of G1 and G0 give tables, though many have another H or
+    /// M; of those few steps from it most give none, and some do. All are admitted.
+    #[test]
+    fn sheets_of_the_shape_and_near_it() {
+        let mut random = Random::new(33);
+        let gives = |sheet: &Sheet| {
+            let mut rooms = [sheet.k, sheet.l, sheet.l].map(|size| vec![0; size as usize]);
+            match to_tables(sheet, &mut rooms) {
+                Ok(_) => Some(rooms),
+                Err(refusal) => {
+                    assert_eq!(refusal, bare(24), "{sheet:?}");
+                    None
+                }
+            }
+        };
+        let (mut others, mut near) = (0, 0);
+        for _ in 0..2000 {
+            let sheet = shaped_sheet(&mut random);
+            let tables = gives(&sheet).expect("tables");
+            let mut again = vec![0; sheet.rows.len()];
+            to_sheet([sheet.n, sheet.k, sheet.l], &tables, &mut again).expect("a sheet");
+            others += u32::from(again != sheet.rows);
+            near += u32::from(gives(&near_sheet(&mut random)).is_none());
+        }
+        assert!((500..1500).contains(&others), "{others}");
+        assert!((800..1800).contains(&near), "{near}");
     }
 }

@@ -1,15 +1,18 @@
 //! Lines that are no calls, or hardly calls: they get no answer, `unknown`, or, at the
 //! very edge of what a call may be, the answer of a call.
 
-use crate::asking::{good_call, line_text};
+use crate::asking::{good_call, line_text, list};
 use crate::lines::ROOM_FOR_LINE;
 use crate::making::kitchen;
 use crate::paging::{good_page_call, good_page_write};
 use crate::random::Random;
+use crate::roomnoise::room_noise;
+use crate::tabling::good_table_call;
+use crate::tokens::{after_list, joined, long_line, miscount, tokens_of};
 
 /// One line of noise.
 pub fn noise_line(random: &mut Random) -> Vec<u8> {
-    match random.below(17) {
+    match random.below(20) {
         0 => silent_line(random),
         1 => wrong_verb(random),
         2..=4 => wrong_token(random),
@@ -22,32 +25,23 @@ pub fn noise_line(random: &mut Random) -> Vec<u8> {
         12 | 13 => wrong_level(random),
         14 => wrong_page_count(random),
         15 => many_slots(random),
+        16..=18 => room_noise(random),
         _ => garbage(random),
     }
 }
 
-/// A good call, on a page or not.
+/// A good call, on a page, about tables or neither.
 fn some_call(random: &mut Random) -> String {
-    if random.once_in(3) {
-        good_page_call(random)
-    } else {
-        good_call(random)
+    match random.below(6) {
+        0 | 1 => good_page_call(random),
+        2 => good_table_call(random),
+        _ => good_call(random),
     }
-}
-
-/// The tokens of a line.
-fn tokens_of(line: String) -> Vec<String> {
-    line.split(' ').map(str::to_string).collect()
 }
 
 /// The tokens of a good call.
 fn good_tokens(random: &mut Random) -> Vec<String> {
     tokens_of(some_call(random))
-}
-
-/// One line from its tokens.
-fn joined(tokens: Vec<String>) -> Vec<u8> {
-    tokens.join(" ").into_bytes()
 }
 
 /// An empty line or a comment, which get no answer.
@@ -86,6 +80,11 @@ fn wrong_verb(random: &mut Random) -> Vec<u8> {
         "pwrit",
         "preads",
         "Pwrite",
+        "tosheet",
+        "totables",
+        "tosheets",
+        "totable",
+        "ToSheet",
         "walk",
         "unknown",
         "d0\t",
@@ -140,20 +139,11 @@ fn token_missing_or_left_over(random: &mut Random) -> Vec<u8> {
     joined(tokens)
 }
 
-/// A call whose LIST count is not the number of its rows.
+/// A call whose first LIST, of rows of a sheet or of P, has a count that is not its number.
 fn wrong_count(random: &mut Random) -> Vec<u8> {
     let mut tokens = good_tokens(random);
-    let count: u32 = tokens[4].parse().expect("a count");
-    let other = random.one_of(&[count - 1, count + 1, count + 2, 0, 64, 65, u32::MAX]);
-    tokens[4] = other.to_string();
+    miscount(random, &mut tokens, 4);
     joined(tokens)
-}
-
-/// The place after a list whose count is at this place of a line's tokens, the entries
-/// having so many tokens each.
-fn after_list(tokens: &[String], at: usize, each: usize) -> usize {
-    let count: usize = tokens[at].parse().expect("a count");
-    at + 1 + each * count
 }
 
 /// The places of the counts of a page write: of its page, and of its records.
@@ -192,34 +182,22 @@ fn wrong_level(random: &mut Random) -> Vec<u8> {
     joined(tokens)
 }
 
-/// A page write whose count of slots or of records is not their number, among them counts
-/// whose threefold is a small number once it is wrapped at 32 bits.
+/// A page write whose count of slots or of records is not their number.
 fn wrong_page_count(random: &mut Random) -> Vec<u8> {
     let mut tokens = tokens_of(good_page_write(random));
     let (page, records) = page_counts(&tokens);
     let at = random.one_of(&[page, records]);
-    let count: u32 = tokens[at].parse().expect("a count");
-    let wrapped = count.wrapping_add(random.one_of(&[0x5555_5556, 0xaaaa_aaab]));
-    let other = match random.below(8) {
-        0 => count.saturating_sub(1),
-        1 => count + 1,
-        2 => count + 2,
-        3 => count + 3,
-        4 => 0,
-        5 => random.one_of(&[256, 257, 2_048, 2_049]),
-        6 => wrapped,
-        _ => u32::MAX,
-    };
-    tokens[at] = other.to_string();
+    miscount(random, &mut tokens, at);
     joined(tokens)
 }
 
 /// A page call with more slots than any page has, or a page write with more records; now
 /// and then with as many as the room for a line has, or more.
 fn many_slots(random: &mut Random) -> Vec<u8> {
-    let slots = |count: usize| [vec![0, count as u32], vec![0; count]].concat();
+    let kind = random.below(3);
+    let slots = |count: usize| [vec![0], list(&vec![0; count])].concat();
     let records = |count: usize| [vec![0, 0, count as u32], vec![0; 3 * count]].concat();
-    let line = |kind: u64, count: usize| match kind {
+    let line = |count: usize| match kind {
         0 => line_text("pread", &kitchen(), &[slots(count), vec![0, 1]].concat()),
         1 => line_text(
             "pwrite",
@@ -228,16 +206,11 @@ fn many_slots(random: &mut Random) -> Vec<u8> {
         ),
         _ => line_text("pwrite", &kitchen(), &[records(count), vec![0, 5]].concat()),
     };
-    let kind = random.below(3);
-    let each = if kind == 2 { " 0 0 0" } else { " 0" };
-    let most = (ROOM_FOR_LINE - line(kind, 10_000).len()) / each.len() + 10_000;
-    let count = match random.below(30) {
-        0 => most - random.below(3) as usize,
-        1 => most + 1 + random.below(3) as usize,
-        _ if kind == 2 => 255 + random.below(4) as usize,
-        _ => 2_046 + random.below(5) as usize,
+    let (usual, each) = match kind {
+        2 => (255 + random.below(4), " 0 0 0".len()),
+        _ => (2_046 + random.below(5), " 0".len()),
     };
-    line(kind, count).into_bytes()
+    long_line(random, usual as usize, each, line)
 }
 
 /// A call with a space too many, or with something else at the place of a space.

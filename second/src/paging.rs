@@ -2,8 +2,8 @@
 //! records, slots and other arguments.
 
 use crate::asking::{
-    cells, good_message, good_read, good_write, high_bits, line_text, odd_limit, odd_message,
-    word_of,
+    cells, good_message, good_read, good_write, high_bits, line_text, list, odd_limit, odd_message,
+    some_number, word_of,
 };
 use crate::making::some_sheet;
 use crate::random::Random;
@@ -36,7 +36,7 @@ pub fn page_call(random: &mut Random, sheet: &Sheet, odd: bool) -> String {
     }
 }
 
-/// `pread` as a line: the number, the page, slot and radius.
+/// `pread` as a line: the number, which is not looked at, the page, slot and radius.
 fn page_read_call(random: &mut Random, sheet: &Sheet, odd: bool) -> String {
     let mut page = some_page(random, sheet, odd);
     let slot = some_slot(random, page.len() as u32, odd);
@@ -55,11 +55,13 @@ fn page_read_call(random: &mut Random, sheet: &Sheet, odd: bool) -> String {
         true => odd_limit(random, 6),
         false => good_radius,
     };
-    let head = vec![some_number(random), page.len() as u32];
-    line_text("pread", sheet, &[head, page, vec![slot, radius]].concat())
+    let number = vec![some_number(random)];
+    let arguments = [number, list(&page), vec![slot, radius]];
+    line_text("pread", sheet, &arguments.concat())
 }
 
-/// `pwrite` as a line: the number, the page, the records, slot and message.
+/// `pwrite` as a line: the number, which is not looked at, the page, the records, slot and
+/// message.
 fn page_write_call(random: &mut Random, sheet: &Sheet, odd: bool) -> String {
     let page = some_page(random, sheet, odd);
     let slot = some_slot(random, page.len() as u32, odd);
@@ -78,16 +80,11 @@ fn page_write_call(random: &mut Random, sheet: &Sheet, odd: bool) -> String {
         }
     }
     let records = with_others(random, own, slot, odd);
-    let head = vec![some_number(random), page.len() as u32];
+    let number = vec![some_number(random)];
     let count = vec![records.len() as u32];
-    let arguments = [head, page, count, records.concat(), vec![slot, message]];
+    let ends = vec![slot, message];
+    let arguments = [number, list(&page), count, records.concat(), ends];
     line_text("pwrite", sheet, &arguments.concat())
-}
-
-/// The number that a page call has and that is not looked at.
-fn some_number(random: &mut Random) -> u32 {
-    let any = random.word(32);
-    random.one_of(&[0, 1, 3, 9, 10, u32::MAX, any])
 }
 
 /// A page: mostly few slots; of the odd ones some have none, or more than 2,048.

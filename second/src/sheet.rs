@@ -11,6 +11,10 @@ pub struct Sheet {
     pub rows: Vec<u32>,
 }
 
+/// The three tables of request 4 as they are lent, or rooms lent for them, nothing checked
+/// yet: P (k by r), R (l by k) and Q (l by r), in this order. Bit c of a row is column c.
+pub type Tables = [Vec<u32>; 3];
+
 /// A line of the table "When the box says no": its number and what is given with it.
 #[derive(Clone, Copy, Debug, PartialEq, Eq)]
 pub struct Refusal {
@@ -95,17 +99,23 @@ pub fn admit(sheet: &Sheet) -> Result<Parts<'_>, Refusal> {
 /// A rule answers the first row, in sheet order, at which it breaks.
 type Rule = fn(&Parts) -> Option<usize>;
 
-/// Refusal 1: 1 ≤ n ≤ 32, k ≥ 1, k + l ≤ n and n + k lent rows, the sums taken as
-/// whole numbers that do not wrap.
+/// The numbers k, l and r = n - k - l, where 1 ≤ n ≤ 32, k ≥ 1 and k + l ≤ n, the sum taken
+/// as a whole number that does not wrap; none where refusal 1 is due.
+pub fn numbers(n: u32, k: u32, l: u32) -> Option<[usize; 3]> {
+    let r = u64::from(n).checked_sub(u64::from(k) + u64::from(l))?;
+    let right = (1..=32).contains(&n) && k >= 1;
+    right.then_some([k as usize, l as usize, r as usize])
+}
+
+/// Refusal 1: the numbers as they should be, and n + k lent rows.
 fn sized(sheet: &Sheet) -> Option<Parts<'_>> {
-    let (n, k, l) = (sheet.n as u64, sheet.k as u64, sheet.l as u64);
-    let right = (1..=32).contains(&n) && k >= 1 && k + l <= n && sheet.rows.len() as u64 == n + k;
-    if !right {
+    let [k, l, r] = numbers(sheet.n, sheet.k, sheet.l)?;
+    if sheet.rows.len() != sheet.n as usize + k {
         return None;
     }
-    let (g1, rest) = sheet.rows.split_at(k as usize);
-    let (g0, rest) = rest.split_at(l as usize);
-    let (h, m) = rest.split_at((n - k - l) as usize);
+    let (g1, rest) = sheet.rows.split_at(k);
+    let (g0, rest) = rest.split_at(l);
+    let (h, m) = rest.split_at(r);
     Some(Parts {
         n: sheet.n,
         g1,
@@ -188,5 +198,21 @@ mod tests {
             rows,
         };
         assert_eq!(admit(&sheet).err(), Some(bare(1)));
+    }
+
+    /// The numbers at their limits: no l, no r, the widest, and those that are just wrong.
+    #[test]
+    fn numbers_at_their_limits() {
+        assert_eq!(numbers(1, 1, 0), Some([1, 0, 0]));
+        assert_eq!(numbers(32, 32, 0), Some([32, 0, 0]));
+        assert_eq!(numbers(32, 1, 31), Some([1, 31, 0]));
+        assert_eq!(numbers(32, 10, 12), Some([10, 12, 10]));
+        for (n, k, l) in [(0, 0, 0), (33, 1, 0), (1, 0, 0), (1, 1, 1), (32, 32, 1)] {
+            assert_eq!(numbers(n, k, l), None);
+        }
+        let most = u32::MAX;
+        for (n, k, l) in [(7, most, 8), (7, 8, most), (7, most, most), (most, 1, 0)] {
+            assert_eq!(numbers(n, k, l), None);
+        }
     }
 }

@@ -1,12 +1,14 @@
-//! A small family of calls with nothing left out: all sheets of up to 3 cells, and the
-//! page calls of two of them.
+//! A small family of calls with nothing left out: all sheets of up to 3 cells, all tables
+//! for them, and the page calls of two of them.
 
-use crate::asking::{call_text, line_text, Verb};
+use crate::asking::{call_text, line_text, list, Verb};
+use crate::every::{every_list, every_sheet};
 use crate::making::attic;
 use crate::sheet::{admit, Sheet};
+use crate::smalltables::{sheets_to_make, sizes_to_judge, tables_in_any_rooms, tables_to_give};
 use std::io::{self, Write};
 
-/// Of the admitted sheets of 3 cells and one shape, one in so many is written and read.
+/// Of the admitted sheets of 3 cells and one n, k and l, one in so many is written and read.
 const WRITTEN_AND_READ: usize = 28;
 
 /// The sheets of the page calls: n, k, l and rows. The one has 2 cells and no checks, the
@@ -16,21 +18,26 @@ const PAGED: [(u32, u32, u32, &[u32]); 2] = [(2, 1, 1, &[1, 3, 3]), (3, 1, 1, &[
 /// What the slots of a page hold before a write: no word of either sheet.
 const HELD: [u32; 2] = [u32::MAX, 1 << 31];
 
-/// Prints the family: every list of rows of up to 2 cells is asked to be admitted; every
-/// admitted sheet of up to 3 cells is measured; the attic sheet, those of up to 2 cells
-/// and some of those of 3 are written and read in every way; two have page calls.
+/// Prints the family: every list of rows of up to 2 cells is asked to be admitted, and for
+/// its tables; every admitted sheet of up to 3 cells is measured, and asked for its tables;
+/// the attic sheet, those of up to 2 cells and some of those of 3 are written and read in
+/// every way; two have page calls, and rooms of any sizes for their tables. All tables of
+/// up to 3 cells are made into sheets.
 pub fn print_small(mut output: impl Write) -> io::Result<()> {
     let mut lines = writes_and_reads(&attic());
+    lines.extend(sizes_to_judge());
     for (n, k, l, rows) in PAGED {
         let rows = rows.to_vec();
         let sheet = Sheet { n, k, l, rows };
         lines.extend(page_writes(&sheet));
         lines.extend(page_reads(&sheet));
+        lines.extend(tables_in_any_rooms(&sheet));
     }
     for n in 1..=3 {
         for k in 1..=n {
             for l in 0..=n - k {
-                lines.extend(calls_of_shape(n, k, l));
+                lines.extend(calls_of_numbers(n, k, l));
+                lines.extend(sheets_to_make(n, k, l));
             }
         }
     }
@@ -41,31 +48,23 @@ pub fn print_small(mut output: impl Write) -> io::Result<()> {
 }
 
 /// The calls for one n, k and l.
-fn calls_of_shape(n: u32, k: u32, l: u32) -> Vec<String> {
+fn calls_of_numbers(n: u32, k: u32, l: u32) -> Vec<String> {
     let mut lines = Vec::new();
     if n < 3 {
-        let sheets = all_sheets(n, k, l, (1 << n) + 1);
-        lines.extend(sheets.map(|sheet| call_text(Verb::Admit, &sheet, &[])));
+        for sheet in every_sheet(n, k, l, (1 << n) + 1) {
+            lines.push(call_text(Verb::Admit, &sheet, &[]));
+            lines.push(tables_to_give(&sheet));
+        }
     }
-    let admitted = all_sheets(n, k, l, 1 << n).filter(|sheet| admit(sheet).is_ok());
+    let admitted = every_sheet(n, k, l, 1 << n).filter(|sheet| admit(sheet).is_ok());
     for (place, sheet) in admitted.enumerate() {
         lines.extend(measurements(&sheet));
+        lines.push(tables_to_give(&sheet));
         if n < 3 || place % WRITTEN_AND_READ == 0 {
             lines.extend(writes_and_reads(&sheet));
         }
     }
     lines
-}
-
-/// Every sheet with these numbers whose n + k rows are all below the limit.
-pub fn all_sheets(n: u32, k: u32, l: u32, limit: u32) -> impl Iterator<Item = Sheet> {
-    let rows_of = move |number: u32| (0..n + k).map(move |i| number / limit.pow(i) % limit);
-    (0..limit.pow(n + k)).map(move |number| Sheet {
-        n,
-        k,
-        l,
-        rows: rows_of(number).collect(),
-    })
 }
 
 /// Admission, and both distances at caps 1 to 4.
@@ -110,9 +109,9 @@ fn page_writes(sheet: &Sheet) -> Vec<String> {
         for records in lists {
             for slot in 0..=2 {
                 for message in 0..=1 << sheet.k {
-                    let page = [&[0, slots as u32], &HELD[..slots]].concat();
+                    let page = list(&HELD[..slots]);
                     let count = vec![records.len() as u32 / 3];
-                    let rest = [page, count, records.clone(), vec![slot, message]];
+                    let rest = [vec![0], page, count, records.clone(), vec![slot, message]];
                     lines.push(line_text("pwrite", sheet, &rest.concat()));
                 }
             }
@@ -143,11 +142,10 @@ fn page_reads(sheet: &Sheet) -> Vec<String> {
     let limit: u32 = (1 << sheet.n) + 1;
     let mut lines = Vec::new();
     for slots in 0..=2 {
-        for number in 0..limit.pow(slots) {
-            let page: Vec<u32> = (0..slots).map(|i| number / limit.pow(i) % limit).collect();
+        for page in every_list(vec![limit; slots]) {
             for slot in 0..=2 {
                 for radius in (0..=sheet.n).chain([5]) {
-                    let rest = [vec![0, slots], page.clone(), vec![slot, radius]];
+                    let rest = [vec![0], list(&page), vec![slot, radius]];
                     lines.push(line_text("pread", sheet, &rest.concat()));
                 }
             }
@@ -173,13 +171,5 @@ mod tests {
             let pages = 1 + words + words * words;
             assert_eq!(page_reads(&sheet).len(), pages * 3 * (n as usize + 2));
         }
-    }
-
-    /// The admitted sheets of 3 cells, one message and one mask, counted another way:
-    /// 7 for G0, 3 for H, 2 for G1 and 2 for M.
-    #[test]
-    fn number_of_admitted_sheets() {
-        let admitted = all_sheets(3, 1, 1, 8).filter(|sheet| admit(sheet).is_ok());
-        assert_eq!(admitted.count(), 7 * 3 * 2 * 2);
     }
 }

@@ -3,9 +3,9 @@
 
 use super::*;
 use crate::asking::{far_sheet, Verb};
+use crate::every::every_sheet;
 use crate::making::{attic, kitchen, random_sheet};
 use crate::random::Random;
-use crate::small::all_sheets;
 use std::collections::BTreeSet;
 
 /// Both ways to the smallest d agree, whether the levels are those of a word or not.
@@ -127,7 +127,7 @@ fn repeating(n: u32) -> Sheet {
 fn plates_of_the_smallest_sheets() {
     for (n, k) in [(1, 1), (2, 1), (2, 2), (3, 1), (3, 2), (3, 3)] {
         for l in 0..=n - k {
-            let admitted = all_sheets(n, k, l, 1 << n).filter(|sheet| admit(sheet).is_ok());
+            let admitted = every_sheet(n, k, l, 1 << n).filter(|sheet| admit(sheet).is_ok());
             for sheet in admitted {
                 assert!((1..=n).contains(&check_plate(&sheet)));
             }

@@ -1,7 +1,10 @@
 //! Tests of whole lines: the bench cases of document 01 as one table, those of request 3
-//! as another, page calls as a third, and lines that are no calls.
+//! as another, page calls as a third, and lines that are no calls. Those of request 4 are
+//! in `rooms`.
 
 use super::*;
+
+mod rooms;
 
 const KITCHEN: &str = "7 3 1 10 49 82 100 127 27 45 78 9 10 12";
 const ATTIC: &str = "3 1 2 4 1 3 5 7";

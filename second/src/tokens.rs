@@ -1,0 +1,57 @@
+//! Lines taken apart into their tokens and put together again, with counts that lie and
+//! with lists as long as a line.
+
+use crate::lines::ROOM_FOR_LINE;
+use crate::random::Random;
+
+/// The tokens of a line.
+pub fn tokens_of(line: String) -> Vec<String> {
+    line.split(' ').map(str::to_string).collect()
+}
+
+/// One line from its tokens.
+pub fn joined(tokens: Vec<String>) -> Vec<u8> {
+    tokens.join(" ").into_bytes()
+}
+
+/// The place after a list whose count is at this place of a line's tokens, the entries
+/// having so many tokens each.
+pub fn after_list(tokens: &[String], at: usize, each: usize) -> usize {
+    let count: usize = tokens[at].parse().expect("a count");
+    at + 1 + each * count
+}
+
+/// Puts another count, mostly a wrong one, at the place of a count; among them are counts
+/// whose threefold is a small number once it is wrapped at 32 bits.
+pub fn miscount(random: &mut Random, tokens: &mut [String], at: usize) {
+    let count: u32 = tokens[at].parse().expect("a count");
+    let wrapped = count.wrapping_add(random.one_of(&[0x5555_5556, 0xaaaa_aaab]));
+    let other = match random.below(9) {
+        0 | 1 => count.saturating_sub(1),
+        2 => count + 1,
+        3 => count + 2,
+        4 => count + 3,
+        5 => 0,
+        6 => random.one_of(&[64, 65, 256, 257, 2_048, 2_049]),
+        7 => wrapped,
+        _ => u32::MAX,
+    };
+    tokens[at] = other.to_string();
+}
+
+/// A line with a list that has the usual number of entries, of so many bytes each; now and
+/// then with as many as the room for a line has, or more.
+pub fn long_line(
+    random: &mut Random,
+    usual: usize,
+    each: usize,
+    line: impl Fn(usize) -> String,
+) -> Vec<u8> {
+    let most = (ROOM_FOR_LINE - line(10_000).len()) / each + 10_000;
+    let count = match random.below(30) {
+        0 => most - random.below(3) as usize,
+        1 => most + 1 + random.below(3) as usize,
+        _ => usual,
+    };
+    line(count).into_bytes()
+}
