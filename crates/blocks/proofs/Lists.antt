@@ -1,8 +1,8 @@
 -- Rows by their numbers, rows under a function, the same rows, and a room that is filled row by row.
 -- For the parts of a sheet and the tables. Assumes nothing.
 use mathlib.Core.Path.{_≡_, refl, sym, ap, _∙_}
-use mathlib.Core.Bool.{Bool, true, not}
-use mathlib.Core.List.{List, [], _∷_, map}
+use mathlib.Core.Bool.{true, not}
+use mathlib.Core.List.{List, map}
 use Prim.Native.Nat.{ℕ, zero, suc, _+_, _≤_, _<_}
 use native.Mathlib.Numerals.{add-one}
 use native.Mathlib.Omega.{arith}
@@ -10,7 +10,6 @@ use borrow.Author.Tests.{eq-eqb, eqb-true, not-true, not-false}
 use lib.Dec.{eqb}
 use lib.ListN.{length, getD, take, set, List·getD-map}
 use lib.Seq.{take-all, take-suc, take-suc-set, ext-getD}
-use Rattle.paper.specs.First.{any}
 use Rattle.paper.specs.Tables.{each, alike}
 use Rattle.words.proofs.Firsts.{any-never, any-all}
 

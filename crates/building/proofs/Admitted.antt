@@ -1,20 +1,20 @@
 -- "Any tables of the right sizes give a sheet that is admitted": each rule in turn.
 -- For the promise, and for the tables that a built sheet gives back. Assumes nothing.
-use mathlib.Core.Path.{_≡_, refl, sym, ap, ap₂, _∙_, subst}
+use mathlib.Core.Path.{_≡_, sym, ap, ap₂, _∙_, subst}
 use mathlib.Core.Bool.{false, not}
 use mathlib.Core.List.{List, [], _++_}
-use Prim.Native.Nat.{ℕ, _+_, _-_, _^_, _≤_, _<_}
+use Prim.Native.Nat.{ℕ, _+_, _-_, _^_, _<_}
 use native.Mathlib.Decide.{decLt}
 use native.Mathlib.Omega.{arith}
-use borrow.Author.Tests.{eq-eqb, ne-eqb, le-leb, lt-leb}
+use borrow.Author.Tests.{eq-eqb, ne-eqb, lt-leb}
 use lib.ListN.{length, getD, take, length-append}
 use lib.Seq.{take-at, drop-at, getD-take}
 use lib.Pow.{pow-pos, pow-lt}
 use Rattle.paper.specs.Promised.{Fits, Systematic}
 use Rattle.paper.specs.Refusals.{answer}
-use Rattle.paper.specs.Sheet.{Sheet, sheet, G1, G0, H, M, G, off, offCode, offMessage, wanted, Admitted}
+use Rattle.paper.specs.Sheet.{Sheet, sheet, G0, H, M, G, off, offCode, offMessage, wanted, Admitted}
 use Rattle.paper.specs.Tables.{column, joined, builtG1, builtG0, builtH, builtM, built}
-use Rattle.paper.specs.Words.{width, cell, product, products, sum}
+use Rattle.paper.specs.Words.{cell, product, products, sum}
 use Rattle.words.proofs.Cells.{cell-above, cell-unit, cell-unit-swap, ext}
 use Rattle.words.proofs.Firsts.{none-below, any-never}
 use Rattle.words.proofs.Products.{product-unit, products-lt, cell-products}
@@ -25,6 +25,7 @@ use Rattle.blocks.proofs.Blocks.{joined-lt, cell-middle, cell-last}
 use Rattle.blocks.proofs.Lists.{length-each}
 use Rattle.building.specs.Rows.{rowG1, rowG0, mixed, rowH, rowM}
 use Rattle.building.proofs.Rows.{rows-G1, rows-G0, built-rows, at-G1, at-G0, at-H, at-M}
+use Rattle.building.proofs.Sizes.{fits-shaped}
 use Rattle.building.proofs.Formulas.{P-lt, R-lt, mixed-lt, G1-H, G0-H, G1-M, G0-M}
 
 -- row i of gs is not off: it has the products wanted
@@ -192,13 +193,7 @@ module _ (n k l : ℕ) (P R Q : List ℕ) (ok : Fits n k l P R Q) where
 
   passed : Passed made
   passed = record {
-    shape = simp (
-      le-leb 1 n (ok .some-cells),
-      le-leb n width (ok .few-cells),
-      le-leb 1 k (ok .some-message),
-      le-leb (k + l) n (ok .space),
-      eq-eqb (length (built n k l P R Q)) (n + k) length-built,
-    );
+    shape = fits-shaped n k l P R Q (built n k l P R Q) ok length-built;
     strays = none-below _ (length (built n k l P R Q)) (λ i h. lt-leb _ _ (low-built i (omega (arith, length-built))));
     codes = none-below _ (k + l) on-code;
     messages = none-below _ (k + l) on-message;

@@ -1,7 +1,6 @@
 -- Two admitted sheets of the same n, k and l with the same G1 and G0 have the same words of each message, and write and read alike, whatever their H and M are.
 -- So a sheet that is built anew of its tables may take the old one's place. For request 4. Assumes nothing.
 use mathlib.Core.Path.{_≡_, refl, sym, ap, ap₂, _∙_, subst}
-use mathlib.Core.Bool.{Bool}
 use mathlib.Core.Logic.{_↔_}
 use mathlib.Core.List.{List, [], _∷_}
 use Prim.Native.Nat.{ℕ, _+_, _*_, _%_, _^_, _<_}

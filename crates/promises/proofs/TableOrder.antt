@@ -6,7 +6,7 @@ use mathlib.Core.Logic.{_⊎_, inl, inr, _↔_, Iff·rfl}
 use mathlib.Core.List.{List, [], _∷_}
 use Prim.Native.Nat.{ℕ, _+_, _-_, _^_, _≤_, _<_}
 use native.Mathlib.Omega.{arith}
-use borrow.Author.Tests.{le-leb, lt-leb, leb-true, leb-false, eq-eqb, ne-eqb}
+use borrow.Author.Tests.{lt-leb, leb-true, leb-false, ne-eqb}
 use lib.Dec.{leb}
 use lib.ListN.{length, getD}
 use Rattle.paper.specs.First.{First, nowhere, at, first}
@@ -14,12 +14,12 @@ use Rattle.paper.specs.Promised.{Fits, Systematic}
 use Rattle.paper.specs.Refusals.{Told, answer, refusal, unless, unlessAt}
 use Rattle.paper.specs.Sheet.{Sheet, sheet, shaped, admits, Admitted}
 use Rattle.paper.specs.Tables.{tabled, strayIn, buildsSized, builds, tableP, tableR, tableQ, systematic, givesAdmitted, gives}
-use Rattle.paper.specs.Words.{width}
-use Rattle.words.proofs.Firsts.{none-below, first-all}
+use Rattle.words.proofs.Firsts.{none-below}
 use Rattle.rules.proofs.Chains.{then-1}
 use Rattle.rules.proofs.Rules.{isRefusal, ofSheet, either, either-at, past, past-at, own, own-or, own-at-or}
 use Rattle.sheet.proofs.Verdicts.{sound, shaped-facts, past-judged, sheet-told}
 use Rattle.blocks.proofs.Counts.{counted, tabled-counted}
+use Rattle.building.proofs.Sizes.{fits-of, fits-shaped}
 use Rattle.tables.proofs.Back.{has-shape, tables-of}
 use Rattle.promises.proofs.Tests.{fails}
 
@@ -91,10 +91,6 @@ module _ (n k l : ℕ) (P R Q room : List ℕ) where
   unfolding builds buildsSized
   build-done = (to, from)
     where
-      low : (m : ℕ) (rows : List ℕ) → first (length rows) (strayIn m rows) ≡ nowhere → (count : ℕ) → length rows ≡ count
-          → (i : ℕ) → i < count → getD rows i 0 < 2 ^ m
-      low m rows e count q i h = leb-false (2 ^ m) (getD rows i 0) (first-all (strayIn m rows) (length rows) i e (omega (arith, q)))
-
       none : (m : ℕ) (rows : List ℕ) (count : ℕ) → length rows ≡ count → ((i : ℕ) → i < count → getD rows i 0 < 2 ^ m)
           → first (length rows) (strayIn m rows) ≡ nowhere
       none m rows count q h = none-below (strayIn m rows) (length rows) (λ i l. lt-leb (2 ^ m) (getD rows i 0) (h i (omega (arith, q))))
@@ -107,30 +103,14 @@ module _ (n k l : ℕ) (P R Q room : List ℕ) where
           let t = past-at 2 (answer []) stray-Q (k + l) (answer []) refl .0 (q .1) in
           let b = and-eq-true-iff (shaped (sheet n k l room)) (tabled k l (length P) (length R) (length Q)) .0 (a .0) in
           let z = shaped-facts (sheet n k l room) (b .0) in
-          let c = counted k l (length P) (length R) (length Q) (b .1) in (
-            record {
-              some-cells = z .some-cells;
-              few-cells = z .few-cells;
-              some-message = z .some-message;
-              space = z .room;
-              rows-P = c .rows-P;
-              rows-R = c .rows-R;
-              rows-Q = c .rows-Q;
-              columns-P = low (n - (k + l)) P (p .0) k (c .rows-P);
-              columns-R = low k R (q .0) l (c .rows-R);
-              columns-Q = low (n - (k + l)) Q (t .0) l (c .rows-Q);
-            },
-            z .all-rows,
-          )
+          (fits-of n k l P R Q room z (counted k l (length P) (length R) (length Q) (b .1)) (p .0) (q .0) (t .0), z .all-rows)
 
       from : Fits n k l P R Q × (length room ≡ n + k) → unless sizes 1 from-P ≡ answer []
       from h =
           let f = h .0 in
-          let shape : shaped (sheet n k l room) ≡ true = simp
-          (le-leb 1 n (f .some-cells), le-leb n width (f .few-cells), le-leb 1 k (f .some-message), le-leb (k + l) n (f .space), eq-eqb (length room) (n + k) (h .1)) in
           let counts = tabled-counted k l (length P) (length R) (length Q) (record { rows-P = f .rows-P; rows-R = f .rows-R; rows-Q = f .rows-Q }) in
           rw (
-            shape,
+            fits-shaped n k l P R Q room f (h .1),
             counts,
             none (n - (k + l)) P k (f .rows-P) (f .columns-P),
             none k R l (f .rows-R) (f .columns-R),

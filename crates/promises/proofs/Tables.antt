@@ -1,7 +1,6 @@
 -- Request 4's promises: any tables of the right sizes give a sheet that is admitted; from tables to the sheet and back nothing is lost; a sheet of the shape
 -- gives exactly its tables; and the sheet that is built anew of them has the same G1 and G0. All of what the lent rooms hold. Assumes nothing.
-use mathlib.Core.Path.{_≡_, refl, sym, ap, _∙_, subst}
-use mathlib.Core.Bool.{true}
+use mathlib.Core.Path.{_≡_, sym, ap, _∙_, subst}
 use mathlib.Core.List.{List, []}
 use Prim.Native.Nat.{ℕ, _+_}
 use lib.ListN.{length}

@@ -3,7 +3,7 @@
 use mathlib.Core.Path.{_≡_, sym, ap, ap₂, _∙_, subst}
 use mathlib.Core.Bool.{true, _&&_, and-eq-true-iff}
 use mathlib.Core.List.{List, map}
-use Prim.Native.Nat.{ℕ, _+_, _-_, _/_, _%_, _^_, _<_}
+use Prim.Native.Nat.{ℕ, _+_, _/_, _%_, _^_, _<_}
 use native.Mathlib.Nat.{mod-lt, zero-div, zero-mod}
 use native.Mathlib.Omega.{arith}
 use lib.ListN.{length, getD, length-map}
@@ -43,9 +43,6 @@ module _ (s : Sheet) (P R Q : List ℕ) (h : Systematic s P R Q) where
 
   abbrev l : ℕ
   l = s .l
-
-  rows-of-G1 : G1 s ≡ builtG1 k l P
-  rows-of-G1 = h .is-G1
 
   row-G1 : (i : ℕ) → i < k → getD (G1 s) i 0 ≡ rowG1 k l P i
   row-G1 i q = ap (λ (gs : List ℕ). getD gs i 0) (h .is-G1 ∙ rows-G1 k l P R Q) ∙ getD-each k (rowG1 k l P) i q

@@ -1,16 +1,16 @@
 -- The code's test of the shape is the definition's: G1 is [I 0 P] if its first k + l cells are [I 0], and G0 is [R I Q] if its l cells after k are I.
 -- For the call's proof. Assumes nothing.
 use mathlib.Core.Path.{_≡_, sym, ap, ap₂, _∙_, subst}
-use mathlib.Core.Bool.{Bool, not, _&&_}
+use mathlib.Core.Bool.{not, _&&_}
 use mathlib.Core.List.{List}
-use Prim.Native.Nat.{ℕ, _+_, _-_, _*_, _/_, _%_, _^_, _≤_, _<_}
+use Prim.Native.Nat.{ℕ, _+_, _*_, _/_, _^_, _<_}
 use native.Mathlib.Decide.{ℕ-discrete}
 use native.Mathlib.Nat.{mod-lt, zero-mul, zero-add}
 use native.Mathlib.Omega.{arith}
 use borrow.Author.Tests.{eq-eqb, ne-eqb}
 use lib.Dec.{eqb}
 use lib.ListN.{length, getD, length-map}
-use lib.Pow.{pow-pos, pow-lt, pow-mono, shr-mod}
+use lib.Pow.{pow-pos, pow-lt, shr-mod}
 use Rattle.paper.specs.First.{First, isSomewhere}
 use Rattle.paper.specs.Sheet.{Sheet, r, G1, G0}
 use Rattle.paper.specs.Tables.{joined, cells, builtG1, builtG0, tableP, tableR, tableQ, alike, systematic}

@@ -1,6 +1,5 @@
 // Request 4: the tables of a sheet. The call: tables. It judges the rooms (1) and the sheet (1 to 6), looks whether G1 is [I 0 P] and G0 is [R I Q] (24),
 // and puts what stands in the tables' places into the lent rooms. Cost: that of admission, and one look at each row of G1 and G0.
-ghost use mathlib.Core.Bool.{not};
 ghost use mathlib.Core.List.{map};
 ghost use mathlib.Core.Path.{_≡_};
 ghost use Prim.Native.Nat.{_+_, _≤_};

@@ -1,12 +1,15 @@
 -- `build_sized` meets its contract: stray bits of P, then of R, then of Q; then the sheet.
-use mathlib.Core.Path.{refl, _∙_}
-use Prim.Native.Nat.{_+_, _-_}
+use mathlib.Core.Path.{_≡_, refl, sym, ap, _∙_}
 use borrow.Author.Needs.{needs}
 use native.Mathlib.Omega.{arith}
+use Rattle.paper.specs.First.{First, nowhere}
 use Rattle.paper.specs.Tables.{buildsSized}
+use Rattle.words.specs.Places.{asFirst}
+use Rattle.words.specs.declared.Place.{Place}
+use Rattle.words.specs.declared.Place.the-variants.{Nowhere}
 use Rattle.rules.proofs.Rooms.{room-left, room-filled}
 use Rattle.rules.proofs.Rules.{stop-first, stop, pass}
-use Rattle.building.proofs.Sizes.{found-lt, no-strays}
+use Rattle.building.proofs.Sizes.{found-lt, fits-of}
 use Rattle.building.proofs.build_sized.Statement.{statement}
 use Rattle.building.proofs.build_sized.Tie as tie
 
@@ -48,27 +51,21 @@ returns-3 c =
     (pass 2 _ (g .find-stray2 .ensures) _ (h .before .enum-told2 .given .1) (stop 2 _ (h .find-stray3 .ensures) _ (c .before .j2 .given .1))) in
     (e, room-left _ _ e)
 
+-- what was not found is nowhere
+none : {p : Place} {f : First} → asFirst p ≡ f → p ≡ Nowhere → f ≡ nowhere
+none e h = sym e ∙ ap asFirst h
+
 -- no stray bits were found: the tables fit
 fill-requires : tie.Need-fill-requires
 fill-requires c κs =
     let h = c .before .before .before in
     let g = h .before .before .before in
     let f = g .before .before .before in
-    let s = f .before .before .before .before .before in
-    let a = s .args in
-    let z = s .pre .1 in (
-      record {
-        some-cells = s .pre .0 .some-cells;
-        few-cells = s .pre .0 .few-cells;
-        some-message = s .pre .0 .some-message;
-        space = s .pre .0 .room;
-        rows-P = z .rows-P;
-        rows-R = z .rows-R;
-        rows-Q = z .rows-Q;
-        columns-P = no-strays (a .n - (a .k + a .l)) (a .p .now) (f .find-stray .ensures) (g .before .enum-told .given .1) (a .k) (z .rows-P);
-        columns-R = no-strays (a .k) (a .r .now) (g .find-stray2 .ensures) (h .before .enum-told2 .given .1) (a .l) (z .rows-R);
-        columns-Q = no-strays (a .n - (a .k + a .l)) (a .q .now) (h .find-stray3 .ensures) (c .before .enum-told3 .given .1) (a .l) (z .rows-Q);
-      },
+    let s = f .before .before .before .before .before in (
+      fits-of _ _ _ _ _ _ _ (s .pre .0) (s .pre .1)
+          (none (f .find-stray .ensures) (g .before .enum-told .given .1))
+          (none (g .find-stray2 .ensures) (h .before .enum-told2 .given .1))
+          (none (h .find-stray3 .ensures) (c .before .enum-told3 .given .1)),
       s .pre .0 .all-rows,
     )
 

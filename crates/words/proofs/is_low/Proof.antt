@@ -1,5 +1,5 @@
 -- `is_low` meets its contract, also over no cells.
-use mathlib.Core.Path.{_≡_, sym, ap, _∙_}
+use mathlib.Core.Path.{sym, ap, _∙_}
 use Prim.Native.Nat.{ℕ, _^_}
 use borrow.Author.Needs.{needs}
 use native.Mathlib.Omega.{arith}
