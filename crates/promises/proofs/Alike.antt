@@ -1,6 +1,7 @@
--- Two admitted sheets of the same n, k and l with the same G1 and G0 have the same words of each message, and write and read alike, whatever their H and M are.
+-- Two admitted sheets of the same n, k and l with the same G1 and G0 have the same words of each message, and every call of the store tells the same of both, whatever their H and M are.
 -- So a sheet that is built anew of its tables may take the old one's place. For request 4. Assumes nothing.
 use mathlib.Core.Path.{_≡_, refl, sym, ap, ap₂, _∙_, subst}
+use mathlib.Core.Bool.{Bool, not, _&&_}
 use mathlib.Core.Logic.{_↔_}
 use mathlib.Core.List.{List, [], _∷_}
 use Prim.Native.Nat.{ℕ, _+_, _*_, _%_, _^_, _<_}
@@ -12,6 +13,7 @@ use lib.ListN.{length}
 use lib.Pow.{pow-pos}
 use Rattle.paper.specs.First.{First, nowhere, at, first}
 use Rattle.paper.specs.Listing.{Search, found, missed, weights}
+use Rattle.paper.specs.Plate.{searchD0, searchD1, plateD0, plateD1, capped, measuresAdmittedD0, measuresAdmittedD1, measuresD0, measuresD1}
 use Rattle.paper.specs.Reading.{strayCell, mostRadius, nearest, heard, readsAdmitted, reads}
 use Rattle.paper.specs.Refusals.{Told, answer, unless, unlessAt}
 use Rattle.paper.specs.Sheet.{Sheet, sheet, G1, G0, H, M, Admitted, WordOf}
@@ -116,3 +118,28 @@ module _ (n k l : ℕ) (rows rows′ : List ℕ) where
             let h = found-first _ n 0 (radius + 1) q .passes in
             ap (λ (m : ℕ). answer (m ∷ z ∷ tried ∷ [])) (sym (code-to n k l rows rows′ e f ok ok′ (y ⊕ z) (eqb-true _ 0 h) .1))
         told (missed tried) q = refl
+
+    -- and so is a measurement of d0
+    pub same-d0 : (cap : ℕ) → measuresD0 s cap ≡ measuresD0 t cap
+    unfolding measuresD0 measuresAdmittedD0 searchD0
+    same-d0 cap =
+        admitted-next s ok _
+        ∙ ap (λ (r : Search). unless (capped cap) 11 (plateD0 r))
+        (search-same _ _ (λ z. ap (λ (os : List ℕ). eqb (products os z) 0) f) 0 (weights n 1 cap))
+        ∙ sym (admitted-next t ok′ _)
+
+    -- and one of d1
+    pub same-d1 : (cap : ℕ) → measuresD1 s cap ≡ measuresD1 t cap
+    unfolding measuresD1 measuresAdmittedD1 searchD1
+    same-d1 cap =
+        admitted-next s ok _
+        ∙ ap (λ (r : Search). unless (capped cap) 11 (plateD1 cap r)) (search-same _ _ same 0 (weights n 1 cap))
+        ∙ sym (admitted-next t ok′ _)
+      where
+        same : (z : ℕ) → (eqb (products (H s) z) 0 && not (eqb (products (M s) z) 0)) ≡ (eqb (products (H t) z) 0 && not (eqb (products (M t) z) 0))
+        same z = go (ℕ-discrete (products (H s) z) 0)
+          where
+            go : Dec (products (H s) z ≡ 0) → (eqb (products (H s) z) 0 && not (eqb (products (M s) z) 0)) ≡ (eqb (products (H t) z) 0 && not (eqb (products (M t) z) 0))
+            go (yes h) =
+                ap₂ (λ (b : Bool) (m : ℕ). b && not (eqb m 0)) (code-same z) (sym (code-to n k l rows rows′ e f ok ok′ z h .1))
+            go (no h) = rw (sym (code-same z), ne-eqb (products (H s) z) 0 h)
