@@ -159,6 +159,22 @@ def _():
     good(calls(asked(whole(slots + 1))), told("unknown"))
 
 
+@test("console: rooms of the most entries and of one more, and tables that fill the line")
+def _():
+    most = "4294967295"
+    counted = lambda count: str(count) + (" " + most) * count
+    told = lambda text: text.encode() + b"\n" + WORD
+    asked = lambda text: text.encode() + b"\n" + WRITE
+    for sizes in ((4096, 4096, 4096), (4097, 1, 1), (1, 4097, 1), (1, 1, 4097), (1, 0, 4096)):
+        rooms = " P %s R %s Q %s" % tuple(counted(size) for size in sizes)
+        line = "totables %s %s" % (ATTIC, " ".join("%d %s" % (size, most) for size in sizes))
+        good(calls(asked(line)), told("unknown" if 4097 in sizes else "refused 1" + rooms))
+    whole = lambda rows: "tosheet 1 1 0 %d%s 0 0 4096 %s" % (rows, " 0" * rows, most)
+    rows = 10000 + (ROOM - len(whole(10000))) // 2
+    good(calls(asked(whole(rows))), told("refused 1 room " + counted(4096)))
+    good(calls(asked(whole(rows + 1))), told("unknown"))
+
+
 @test("console: page calls, answered and refused, and page lines that are no calls")
 def _():
     text = ""

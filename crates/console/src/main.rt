@@ -1,5 +1,6 @@
 // The console: reads calls from standard input, one a line, and writes one answer a line to standard output.
 // What a line is answered is in `talk`; here are the rooms, the pieces of the input, and the order of reads and writes.
+use lines::MOST_ROOM;
 use lines::ROOM_LINE;
 use lines::ROOM_NUMBERS;
 use paper::Word;
@@ -17,6 +18,7 @@ ghost use mathlib.Core.List.{[]};
 ghost use lib.ListN.{length, take};
 ghost use Rattle.text.specs.Tokens.{Whole};
 ghost use Rattle.lines.specs.Lines.{roomLine, roomNumbers};
+ghost use Rattle.lines.specs.Shapes.{mostRoom};
 ghost use Rattle.talk.specs.Talk.{Rooms, Answered};
 
 // Whether an answer was written, and how many were so far.
@@ -161,11 +163,11 @@ fn room_for_numbers() -> [Word; ROOM_NUMBERS]
     [0; ROOM_NUMBERS]
 }
 
-// Room for one answer: its own text, and a list of all numbers of a line.
-fn room_for_answer() -> [u8; 160 + 21 * ROOM_NUMBERS]
-    ensures { λ r. ⌜ 160 + 21 * roomNumbers ≡ length r ⌝ }
+// Room for one answer: its own text, a list of all numbers of a line, and three rooms that it may ask for.
+fn room_for_answer() -> [u8; 160 + 21 * (ROOM_NUMBERS + 3 * MOST_ROOM)]
+    ensures { λ r. ⌜ 160 + 21 * (roomNumbers + 3 * mostRoom) ≡ length r ⌝ }
 {
-    [0; 160 + 21 * ROOM_NUMBERS]
+    [0; 160 + 21 * (ROOM_NUMBERS + 3 * MOST_ROOM)]
 }
 
 // The rooms are made once. At a good end a byte is written to descriptor 3, for a caller that wants to know: a program has no exit status.

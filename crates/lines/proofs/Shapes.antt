@@ -18,7 +18,7 @@ use Rattle.text.specs.declared.Number.the-variants as Number
 use Rattle.text.specs.Numerals.{numeral}
 use Rattle.text.proofs.Numerals.{numeral-most}
 use Rattle.paper.specs.Words.{width}
-use Rattle.lines.specs.Shapes.{mostOf, itemsOf, nextOf, itemOf, items, unrolled, joined, before, fill, stored, filled, Fits, Records, Stands}
+use Rattle.lines.specs.Shapes.{mostRoom, mostOf, itemsOf, nextOf, itemOf, items, unrolled, joined, before, fill, stored, filled, Fits, Records, Stands}
 
 -- ---- the letters that are to come
 
@@ -60,12 +60,13 @@ some-left u e t = omega (arith, eqb-false (length u) 0 (sym e ∙ t))
 
 -- every place's most is one that a word holds
 pub most-le : (letter : ℕ) → mostOf letter ≤ 2 ^ width - 1
-most-le letter = go (eqb letter 119) (eqb letter 98)
+most-le letter = go (eqb letter 119) (eqb letter 98) (eqb letter 109)
   where
-    go : (w b : Bool) → cond w (2 ^ width - 1) (cond b (2 ^ 8 - 1) (2 ^ 32 - 1)) ≤ 2 ^ width - 1
-    go true b = omega arith
-    go false true = omega arith
-    go false false = omega arith
+    go : (w b m : Bool) → cond w (2 ^ width - 1) (cond b (2 ^ 8 - 1) (cond m mostRoom (2 ^ 32 - 1))) ≤ 2 ^ width - 1
+    go true b m = omega arith
+    go false true m = omega arith
+    go false false true = omega arith
+    go false false false = omega arith
 
 -- the next letter is that of an item
 pub letter-item : (wide : Bool) (left : ℕ) (rest : List ℕ) → 0 < left → getD (items wide left ++ rest) 0 0 ≡ itemOf wide left

@@ -14,9 +14,13 @@ use Rattle.lines.specs.declared.shape.Counted.{Counted}
 use Rattle.lines.specs.declared.shape.Counted.the-variants as Counted
 use Rattle.lines.specs.declared.shape.Cursor.{Cursor}
 
--- the most that the place of a letter holds: `w` (119) a word, `b` (98) 8 bits, any other letter 32 bits
+-- the most entries of a room that a line may ask for
+abbrev pub mostRoom : ℕ
+mostRoom = 4096
+
+-- the most that the place of a letter holds: `w` (119) a word, `b` (98) 8 bits, `m` (109) the size of a room, any other letter 32 bits
 abbrev pub mostOf : ℕ → ℕ
-mostOf letter = cond (eqb letter 119) (2 ^ width - 1) (cond (eqb letter 98) (2 ^ 8 - 1) (2 ^ 32 - 1))
+mostOf letter = cond (eqb letter 119) (2 ^ width - 1) (cond (eqb letter 98) (2 ^ 8 - 1) (cond (eqb letter 109) mostRoom (2 ^ 32 - 1)))
 
 -- how many items follow the number at a letter: `L` (76) as many, `R` (82) three for each, any other none
 abbrev pub itemsOf : ℕ → ℕ → ℕ

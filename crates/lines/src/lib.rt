@@ -6,3 +6,4 @@ pub use call::Line;
 pub use call::ROOM_LINE;
 pub use call::ROOM_NUMBERS;
 pub use call::parse;
+pub use shape::MOST_ROOM;

@@ -1,5 +1,5 @@
-// The numbers of a line, against a shape: `n` a number of 32 bits, `b` one of 8, `w` a word, `L` a count and as many words, `R` a count and three numbers for each,
-// the third of 8 bits.
+// The numbers of a line, against a shape: `n` a number of 32 bits, `b` one of 8, `w` a word, `m` the size of a room, `L` a count and as many words, `R` a count and
+// three numbers for each, the third of 8 bits.
 ghost use mathlib.Core.Path.{_≡_};
 ghost use Prim.Native.Nat.{_+_, _*_, _≤_, _<_};
 ghost use lib.Dec.{eqb};
@@ -23,6 +23,9 @@ const MOST_NUMBER: u64 = 4294967295;
 // The most that 8 bits hold.
 const MOST_BYTE: u64 = 255;
 
+// The most entries of a room that a line may ask for: such a room is lent from memory that is always there.
+pub const MOST_ROOM: usize = 4096;
+
 // Where a shape is read: `left` items of a list are to come, words or the numbers of records, and then the letters from `at` on.
 struct Cursor {
     at: usize,
@@ -45,6 +48,9 @@ fn most_of(letter: u8) -> u64
     }
     if letter == b'b' {
         return MOST_BYTE;
+    }
+    if letter == b'm' {
+        return MOST_ROOM as u64;
     }
     MOST_NUMBER
 }

@@ -1,5 +1,5 @@
 -- Lines and their answers, computed: what the definitions say of an example is what is written down.
--- They show a verb's labels, a refusal with its place, a page behind an answer, and a number that its place does not hold.
+-- They show a verb's labels, a refusal with its place, a page or rooms behind an answer, and numbers that their places do not hold.
 use mathlib.Core.Path.{_≡_, refl}
 use lib.Count.{ones}
 use Rattle.paper.specs.Words.{sum}
@@ -7,6 +7,7 @@ use Rattle.paper.specs.Sheet.{judged}
 use Rattle.paper.specs.Writing.{writes}
 use Rattle.paper.specs.First.{first}
 use Rattle.paper.specs.Page.{firstBroken, paged, slotWrites, pageWrites}
+use Rattle.paper.specs.Tables.{each, column, built, buildsSized, builds, givesAdmitted, gives}
 use Rattle.text.specs.Bytes.{bytes}
 use Rattle.text.specs.Tokens.{cut, same, upTo}
 use Rattle.text.specs.Numerals.{numeral, valued}
@@ -28,6 +29,18 @@ place = refl
 page : reply (asked table (bytes "pwrite 3 1 2 4 1 3 5 7 9 2 0 7 1 0 1 1 0 1")) ≡ bytes "word 2 d 1 page 2 2 7\n"
 unfolding cut asked comes spelled lookup same fill numeral valued judged paged pageWrites slotWrites firstBroken first recordsFrom labelled spaced upTo digitsOf ones sum
 page = refl
+
+room : reply (asked table (bytes "tosheet 3 1 2 1 0 2 1 1 2 0 0 4 9")) ≡ bytes "done room 4 1 3 5 7\n"
+unfolding cut asked comes spelled lookup same fill numeral valued builds buildsSized built each column first labelled spaced upTo digitsOf ones sum
+room = refl
+
+rooms : reply (asked table (bytes "totables 3 1 2 4 1 5 3 7 1 9 2 9 2 9")) ≡ bytes "refused 24 P 1 9 R 2 9 9 Q 2 9 9\n"
+unfolding cut asked comes spelled lookup same fill numeral valued judged gives givesAdmitted each first labelled spaced upTo digitsOf ones sum
+rooms = refl
+
+large : reply (asked table (bytes "tosheet 1 1 0 1 0 0 0 4097 0")) ≡ bytes "unknown\n"
+unfolding cut asked comes spelled lookup same fill numeral valued
+large = refl
 
 over : reply (asked table (bytes "write 3 1 2 4 1 3 5 7 1 4294967296 0")) ≡ bytes "unknown\n"
 unfolding cut asked comes spelled lookup same fill numeral valued

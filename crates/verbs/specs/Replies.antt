@@ -10,11 +10,13 @@ use Rattle.text.specs.Bytes.{bytes}
 use Rattle.lines.specs.Arguments.{sheetIn, arg}
 use Rattle.lines.specs.Lines.{Asked, silent, unknown, call}
 use Rattle.answers.specs.Answers.{spoken}
+use Rattle.lines.specs.Shapes.{mostRoom}
 use Rattle.pageverbs.specs.Pages.{pwriteText, pageRead}
+use Rattle.tableverbs.specs.Tabling.{tosheetText, totablesText}
 
 -- the verbs, each with its shape
 abbrev pub table : List ℕ
-table = bytes "admit nnnL write nnnLwww read nnnLwn d0 nnnLn d1 nnnLn pwrite nnnLnLRnw pread nnnLnLnn"
+table = bytes "admit nnnL write nnnLwww read nnnLwn d0 nnnLn d1 nnnLn pwrite nnnLnLRnw pread nnnLnLnn tosheet nnnLLLmw totables nnnLmwmwmw"
 
 -- the text of each verb's answer, in the order of the table: what the call's definition tells, spoken
 abbrev pub verbs : List (List ℕ → List ℕ)
@@ -26,15 +28,17 @@ verbs =
     ∷ (λ ns. spoken (bytes "distance | tried | radius ") (measuresD1 (sheetIn ns) (arg ns 0)))
     ∷ (λ ns. pwriteText ns)
     ∷ (λ ns. spoken (bytes "message | z | tried ") (pageRead ns))
+    ∷ (λ ns. tosheetText ns)
+    ∷ (λ ns. totablesText ns)
     ∷ []
 
 -- the text of the answer to a verb's call
 abbrev pub replied : ℕ → List ℕ → List ℕ
 replied v ns = getD verbs v (λ ns. []) ns
 
--- the most bytes that the text and its newline may take: a line's own text, and the lists that it lent
+-- the most bytes that the text and its newline may take: a line's own text, the lists that it lent, and three rooms
 abbrev pub roomReply : List ℕ → ℕ
-roomReply ns = 160 + 21 * length ns
+roomReply ns = 160 + 21 * (length ns + 3 * mostRoom)
 
 -- the answer to what a line asks for
 abbrev pub reply : Asked → List ℕ

@@ -1,11 +1,13 @@
 // The verbs of the console: their names and shapes in the table of `ask`, the call behind each, and its labels in the arms of `reply`. Those that lend a page are
-// functions of `pageverbs`.
+// functions of `pageverbs`, and those that lend rooms of `tableverbs`.
 use answers::say;
 use lines::Line;
 use lines::parse;
 use pageverbs::pread;
 use pageverbs::pwrite;
 use paper::Word;
+use tableverbs::tosheet;
+use tableverbs::totables;
 use told::Numbers;
 use told::of_admission;
 use told::of_d0;
@@ -96,6 +98,8 @@ pub fn reply(verb: usize, ns: &[Word], out: &mut [u8]) -> usize
         4 => say(out, 0, b"distance | tried | radius ", d1(ns)),
         5 => pwrite(ns, out),
         6 => say(out, 0, b"message | z | tried ", pread(ns)),
+        7 => tosheet(ns, out),
+        8 => totables(ns, out),
         _ => 0,
     }
 }
@@ -109,7 +113,7 @@ pub fn ask(line: &[u8], ns: &mut [Word]) -> Line
 {
     parse(
         line,
-        b"admit nnnL write nnnLwww read nnnLwn d0 nnnLn d1 nnnLn pwrite nnnLnLRnw pread nnnLnLnn",
+        b"admit nnnL write nnnLwww read nnnLwn d0 nnnLn d1 nnnLn pwrite nnnLnLRnw pread nnnLnLnn tosheet nnnLLLmw totables nnnLmwmwmw",
         ns,
     )
 }

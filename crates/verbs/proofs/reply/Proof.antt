@@ -54,6 +54,18 @@ pread-requires : tie.Need-pread-requires
 unfolding cut
 pread-requires c κs = placed (c .before .before .before .before .before) 6 (omega arith)
 
+tosheet-requires : tie.Need-tosheet-requires
+unfolding cut
+tosheet-requires c κs =
+    let c4 = c .before .before .before .before in
+    (placed (c4) 7 (omega arith), omega (arith, c4 .pre .1))
+
+totables-requires : tie.Need-totables-requires
+unfolding cut
+totables-requires c κs =
+    let c4 = c .before .before .before .before in
+    (placed (c4) 8 (omega arith), omega (arith, c4 .pre .1))
+
 returns : tie.Need-returns
 returns c =
     let c3 = c .before .before .before in
@@ -101,18 +113,29 @@ returns-7 c =
     let s = c .before .before .say6 in
     (put-text (ap (spoken (bytes "message | z | tried ")) (c3 .pread .ensures) ∙ is (c9) 6 (omega arith)) (s .ensures .0), omega (arith, s .ensures .1))
 
+returns-8 : tie.Need-returns-8
+returns-8 c =
+    let p = c .before .before .tosheet .ensures in
+    (put-text (is (c .before .before .before .before .before .before .before) 7 (omega arith)) (p .0), omega (arith, p .1))
+
+returns-9 : tie.Need-returns-9
+returns-9 c =
+    let p = c .before .before .totables .ensures in
+    (put-text (is (c .before .before .before .before .before .before .before) 8 (omega arith)) (p .0), omega (arith, p .1))
+
 -- one verb of the table after the other is passed by
 pass : (k v : ℕ) → k ≤ v → (v ≡ k → ⊥) → suc k ≤ v
 pass k v h n = omega (arith, n)
 
-returns-8 : tie.Need-returns-8
-returns-8 c =
+returns-10 : tie.Need-returns-10
+returns-10 c =
     let a = c .before .before .before .args in
     let v = a .verb in
-    let r5 = c .match .rest .0 in
+    let r7 = c .match .rest .0 in
+    let r5 = r7 .0 .0 in
     let r3 = r5 .0 .0 in
     let four = pass 3 v (pass 2 v (pass 1 v (pass 0 v (omega arith) (r3 .0 .0 .0 .1)) (r3 .0 .0 .1)) (r3 .0 .1)) (r3 .1) in
-    let far : 7 ≤ v = pass 6 v (pass 5 v (pass 4 v four (r5 .0 .1)) (r5 .1)) (c .match .rest .1) in
+    let far : 9 ≤ v = pass 8 v (pass 7 v (pass 6 v (pass 5 v (pass 4 v four (r5 .0 .1)) (r5 .1)) (r7 .0 .1)) (r7 .1)) (c .match .rest .1) in
     (put-text (sym (ap (λ (f : List ℕ → List ℕ). f (a .ns .now)) (List·getD-eq-default verbs (λ ns. []) far))) (put-nothing (a .out .now) 0), omega arith)
 
 pub reply-spec : {M : Type 1} → statement M
@@ -126,6 +149,8 @@ reply-spec =
     (λ c. search needs) d1-requires (λ c κs. search needs)
     pwrite-requires
     (λ c. search needs) pread-requires (λ c κs. search needs)
+    tosheet-requires
+    totables-requires
     (λ c. search needs) returns
     (λ c. search needs) returns-2
     (λ c. search needs) returns-3
@@ -133,4 +158,6 @@ reply-spec =
     (λ c. search needs) returns-5
     (λ c. search needs) returns-6
     (λ c. search needs) returns-7
-    returns-8)
+    (λ c. search needs) returns-8
+    (λ c. search needs) returns-9
+    returns-10)

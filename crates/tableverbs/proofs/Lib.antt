@@ -1,0 +1,3 @@
+-- The law of rooms of which a part is lent.
+-- The functions' proofs cite it.
+mod Rooms
