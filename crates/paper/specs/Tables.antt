@@ -111,7 +111,7 @@ tableR s = map (cells 0 (s .k)) (G0 s)
 abbrev pub tableQ : Sheet → List ℕ
 tableQ s = map (cells (s .k + s .l) (r s)) (G0 s)
 
--- the same rows
+-- each of the rows xs is the row of ys with its number
 abbrev pub alike : List ℕ → List ℕ → Bool
 alike xs ys = not (any (length xs) (λ i. not (eqb (getD xs i 0) (getD ys i 0))))
 
