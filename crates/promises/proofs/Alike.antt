@@ -7,7 +7,7 @@ use mathlib.Core.List.{List, [], _∷_}
 use Prim.Native.Nat.{ℕ, _+_, _*_, _%_, _^_, _<_}
 use native.Mathlib.Decide.{ℕ-discrete}
 use native.Mathlib.Nat.{mod-lt}
-use borrow.Author.Tests.{eq-eqb, ne-eqb, eqb-true}
+use borrow.Author.Tests.{ne-eqb, eqb-true}
 use lib.Dec.{eqb, leb, ltb}
 use lib.ListN.{length}
 use lib.Pow.{pow-pos}
@@ -24,6 +24,7 @@ use Rattle.words.proofs.Products.{product-low, products-lt}
 use Rattle.elimination.proofs.Span.{All, Low}
 use Rattle.listing.proofs.Searched.{search-same, found-first}
 use Rattle.sheet.proofs.Messages.{words-of}
+use Rattle.sheet.proofs.Tests.{eqb-same}
 use Rattle.sheet.proofs.Verdicts.{sound, admitted-next}
 
 -- the products with rows over n cells do not see the cells above
@@ -96,11 +97,9 @@ module _ (n k l : ℕ) (rows rows′ : List ℕ) where
 
     -- the test of a read says the same
     code-same : (x : ℕ) → eqb (products (H s) x) 0 ≡ eqb (products (H t) x) 0
-    code-same x = go (ℕ-discrete (products (H s) x) 0)
-      where
-        go : Dec (products (H s) x ≡ 0) → eqb (products (H s) x) 0 ≡ eqb (products (H t) x) 0
-        go (yes h) = eq-eqb _ 0 h ∙ sym (eq-eqb _ 0 (code-to n k l rows rows′ e f ok ok′ x h .0))
-        go (no h) = ne-eqb _ 0 h ∙ sym (ne-eqb _ 0 (λ q. h (code-to n k l rows′ rows (sym e) (sym f) ok′ ok x q .0)))
+    code-same x =
+        eqb-same (products (H s) x) 0 (products (H t) x) 0 (λ h. code-to n k l rows rows′ e f ok ok′ x h .0)
+        (λ h. code-to n k l rows′ rows (sym e) (sym f) ok′ ok x h .0)
 
     -- a read is told alike
     pub same-reads : (y radius : ℕ) → reads s y radius ≡ reads t y radius

@@ -1,10 +1,11 @@
 -- The refusals of building a sheet and of asking for its tables, each exactly when: "Wrong sizes are refusal 1, lent rooms too", "Stray bits are refusal 2,
 -- with the row counted through P, then R, then Q", and "24, after 1 to 6". For request 4. Assumes nothing.
-use mathlib.Core.Path.{_≡_, refl, sym, _∙_}
+use mathlib.Core.Path.{_≡_, refl, sym, ap, _∙_}
 use mathlib.Core.Bool.{Bool, true, false, _&&_, and-eq-true-iff, true≢false}
 use mathlib.Core.Logic.{_⊎_, inl, inr, _↔_, Iff·rfl}
 use mathlib.Core.List.{List, [], _∷_}
 use Prim.Native.Nat.{ℕ, _+_, _-_, _^_, _≤_, _<_}
+use native.Mathlib.Nat.{zero-add}
 use native.Mathlib.Omega.{arith}
 use borrow.Author.Tests.{lt-leb, leb-true, leb-false, ne-eqb}
 use lib.Dec.{leb}
@@ -63,25 +64,29 @@ module _ (n k l : ℕ) (P R Q room : List ℕ) where
   -- "Stray bits are refusal 2, with the row counted through P, then R, then Q"
   pub build-2 : (row : ℕ) → (builds n k l P R Q room ≡ refusal 2 (row ∷ []))
       ↔ ((sizes ≡ true)
-      × (((i : ℕ) × (stray-P ≡ at i) × (0 + i ≡ row))
+      × ((stray-P ≡ at row)
       ⊎ ((stray-P ≡ nowhere)
       × (((j : ℕ) × (stray-R ≡ at j) × (k + j ≡ row))
       ⊎ ((stray-R ≡ nowhere) × ((j : ℕ) × (stray-Q ≡ at j) × (k + l + j ≡ row)))))))
   unfolding builds buildsSized
   build-2 row =
       then-1 (past 1 from-P sizes Iff·rfl (refusal 2 (row ∷ [])) refl)
-      (or-else (own-at-or 2 from-R stray-P 0 row) (or-else (own-at-or 2 from-Q stray-R k row) last))
+      (or-else (own-at-or 2 from-R stray-P 0 row) in-P (or-else (own-at-or 2 from-Q stray-R k row) Iff·rfl in-Q))
     where
-      -- what a later rule tells, made plain
-      or-else : {A B C D X : Type 0} → X ↔ (A ⊎ (B × C)) → C ↔ D → X ↔ (A ⊎ (B × D))
-      or-else i j = (
-        λ x. elim (i .0 x) [ inl a ↦ inl a | inr b ↦ inr (b .0, j .0 (b .1)) ],
-        λ y. i .1 (elim y [ inl a ↦ inl a | inr b ↦ inr (b .0, j .1 (b .1)) ]),
+      -- what this rule or a later one tells, made plain
+      or-else : {A A′ B C C′ X : Type 0} → X ↔ (A ⊎ (B × C)) → A ↔ A′ → C ↔ C′ → X ↔ (A′ ⊎ (B × C′))
+      or-else i a c = (
+        λ x. elim (i .0 x) [ inl p ↦ inl (a .0 p) | inr q ↦ inr (q .0, c .0 (q .1)) ],
+        λ y. i .1 (elim y [ inl p ↦ inl (a .1 p) | inr q ↦ inr (q .0, c .1 (q .1)) ]),
       )
 
-      -- none comes after Q's
-      last : (from-Q ≡ refusal 2 (row ∷ [])) ↔ ((j : ℕ) × (stray-Q ≡ at j) × (k + l + j ≡ row))
-      last = (
+      -- P's rows are counted from 0
+      in-P : ((i : ℕ) × (stray-P ≡ at i) × (0 + i ≡ row)) ↔ (stray-P ≡ at row)
+      in-P = (λ q. q .1 ∙ ap at (sym (zero-add (q .0)) ∙ q .2), λ e. (row, e, zero-add row))
+
+      -- and none comes after Q's
+      in-Q : (from-Q ≡ refusal 2 (row ∷ [])) ↔ ((j : ℕ) × (stray-Q ≡ at j) × (k + l + j ≡ row))
+      in-Q = (
         λ e. elim (own-at-or 2 (answer []) stray-Q (k + l) row .0 e) [ inl q ↦ q | inr q ↦ (let z : _≡_ {A = ℕ} 0 1 = cc (q .1) in absurd (omega arith)) ],
         λ q. own-at-or 2 (answer []) stray-Q (k + l) row .1 (inl q),
       )

@@ -1,9 +1,10 @@
--- Tests of the code, said of what the definitions test.
--- For the loops that judge a sheet. Assumes nothing.
+-- Tests of the code, said of what the definitions test, and tests that say the same.
+-- For the loops that judge a sheet, and for sheets that are told alike. Assumes nothing.
 use mathlib.Core.Path.{_≡_, sym, ap, _∙_}
 use mathlib.Core.Bool.{Bool, true, false}
 use mathlib.Core.List.{List}
 use Prim.Native.Nat.{ℕ, _^_}
+use native.Mathlib.Decide.{ℕ-discrete}
 use native.Mathlib.Omega.{arith}
 use borrow.Author.Tests.{eq-eqb, ne-eqb, le-leb, lt-leb, ltb-true, ltb-false}
 use lib.Dec.{eqb, leb, ltb}
@@ -16,6 +17,14 @@ eqb-yes p q e = eq-eqb _ _ (sym p ∙ e ∙ q)
 
 pub eqb-no : {r s x y : ℕ} → r ≡ x → s ≡ y → (r ≡ s → ⊥) → eqb x y ≡ false
 eqb-no p q h = ne-eqb _ _ (λ e. h (p ∙ e ∙ sym q))
+
+-- equations that say the same are tested alike
+pub eqb-same : (a b c d : ℕ) → (a ≡ b → c ≡ d) → (c ≡ d → a ≡ b) → eqb a b ≡ eqb c d
+eqb-same a b c d f g = go (ℕ-discrete a b)
+  where
+    go : Dec (a ≡ b) → eqb a b ≡ eqb c d
+    go (yes e) = eq-eqb a b e ∙ sym (eq-eqb c d (f e))
+    go (no n) = ne-eqb a b n ∙ sym (ne-eqb c d (λ e. n (g e)))
 
 -- a word that is not over n cells has a bit at cell n or above
 pub stray-yes : (n x : ℕ) → ltb x (2 ^ n) ≡ false → leb (2 ^ n) x ≡ true

@@ -4,10 +4,8 @@ use mathlib.Core.Path.{_≡_, sym, ap, ap₂, _∙_, subst}
 use mathlib.Core.Bool.{not, _&&_}
 use mathlib.Core.List.{List}
 use Prim.Native.Nat.{ℕ, _+_, _*_, _/_, _^_, _<_}
-use native.Mathlib.Decide.{ℕ-discrete}
 use native.Mathlib.Nat.{mod-lt, zero-mul, zero-add}
 use native.Mathlib.Omega.{arith}
-use borrow.Author.Tests.{eq-eqb, ne-eqb}
 use lib.Dec.{eqb}
 use lib.ListN.{length, getD, length-map}
 use lib.Pow.{pow-pos, pow-lt, shr-mod}
@@ -17,6 +15,7 @@ use Rattle.paper.specs.Tables.{joined, cells, builtG1, builtG0, tableP, tableR,
 use Rattle.words.proofs.Firsts.{first-same}
 use Rattle.elimination.proofs.Span.{Low}
 use Rattle.sheet.specs.Sound.{Sound}
+use Rattle.sheet.proofs.Tests.{eqb-same}
 use Rattle.sheet.proofs.Verdicts.{all-at}
 use Rattle.blocks.proofs.Blocks.{joined-middle, joined-front, front-joined, joined-back}
 use Rattle.blocks.proofs.Lists.{getD-each}
@@ -24,14 +23,6 @@ use Rattle.building.specs.Rows.{rowG1, rowG0}
 use Rattle.building.proofs.Rows.{rows-G1, rows-G0}
 use Rattle.tables.specs.Identities.{identityAt}
 use Rattle.tables.proofs.Back.{table-at}
-
--- tests of equations that say the same
-eqb-same : (a b c d : ℕ) → (a ≡ b → c ≡ d) → (c ≡ d → a ≡ b) → eqb a b ≡ eqb c d
-eqb-same a b c d f g = go (ℕ-discrete a b)
-  where
-    go : Dec (a ≡ b) → eqb a b ≡ eqb c d
-    go (yes e) = eq-eqb a b e ∙ sym (eq-eqb c d (f e))
-    go (no n) = ne-eqb a b n ∙ sym (ne-eqb c d (λ e. n (g e)))
 
 -- rows that are what they should be, tested otherwise
 alike-by : (rows wanted : List ℕ) (from count : ℕ)

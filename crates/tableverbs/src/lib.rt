@@ -1,4 +1,4 @@
-// The verbs of the console that lend rooms: tosheet and totables. A room is a local of the largest size that a line may ask for, and as much of it is lent as it does.
+// The verbs of the console that lend rooms: tosheet and totables. A room is a local of the largest size that a line may ask for, and as much of it is lent as the line asks for.
 ghost use mathlib.Core.Path.{_≡_};
 ghost use Prim.Native.Nat.{ℕ, _+_, _*_, _≤_, _<_};
 ghost use lib.ListN.{length, take, replicate};
