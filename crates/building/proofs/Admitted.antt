@@ -24,7 +24,7 @@ use Rattle.sheet.proofs.Verdicts.{Passed, passed-next, part-length, part-at, no
 use Rattle.blocks.proofs.Blocks.{joined-lt, cell-middle, cell-last}
 use Rattle.blocks.proofs.Lists.{length-each}
 use Rattle.building.specs.Rows.{rowG1, rowG0, mixed, rowH, rowM}
-use Rattle.building.proofs.Rows.{rows-G1, rows-G0, built-rows, at-G1, at-G0, at-H, at-M}
+use Rattle.building.proofs.Rows.{length-G1, length-G0, built-rows, at-G1, at-G0, at-H, at-M}
 use Rattle.building.proofs.Sizes.{fits-shaped}
 use Rattle.building.proofs.Formulas.{P-lt, R-lt, mixed-lt, G1-H, G0-H, G1-M, G0-M}
 
@@ -82,15 +82,6 @@ module _ (n k l : ℕ) (P R Q : List ℕ) (ok : Fits n k l P R Q) where
       let e : rest + l + k ≡ n = omega (arith, ok .space) in
       subst (λ (m : ℕ). joined k l a b c < 2 ^ m) e (joined-lt k l rest a b c ha hb hc)
 
-  column-P : (c : ℕ) → column P c < 2 ^ k
-  column-P = P-lt k l P R Q (ok .rows-P) (ok .rows-R) (ok .rows-Q) (ok .columns-R)
-
-  column-R : (i : ℕ) → column R i < 2 ^ l
-  column-R = R-lt k l P R Q (ok .rows-P) (ok .rows-R) (ok .rows-Q) (ok .columns-R)
-
-  column-mixed : (c : ℕ) → column (mixed P R Q) c < 2 ^ l
-  column-mixed = mixed-lt k l P R Q (ok .rows-P) (ok .rows-R) (ok .rows-Q) (ok .columns-R)
-
   pub rowG1-lt : (i : ℕ) → i < k → rowG1 k l P i < 2 ^ n
   rowG1-lt i h = row-lt (2 ^ i) 0 (getD P i 0) (pow-lt h) (pow-pos l) (ok .columns-P i h)
 
@@ -98,10 +89,10 @@ module _ (n k l : ℕ) (P R Q : List ℕ) (ok : Fits n k l P R Q) where
   rowG0-lt j h = row-lt (getD R j 0) (2 ^ j) (getD Q j 0) (ok .columns-R j h) (pow-lt h) (ok .columns-Q j h)
 
   pub rowH-lt : (c : ℕ) → c < rest → rowH k l P R Q c < 2 ^ n
-  rowH-lt c h = row-lt (column P c) (column (mixed P R Q) c) (2 ^ c) (column-P c) (column-mixed c) (pow-lt h)
+  rowH-lt c h = row-lt (column P c) (column (mixed P R Q) c) (2 ^ c) (P-lt n k l P R Q ok c) (mixed-lt n k l P R Q ok c) (pow-lt h)
 
   pub rowM-lt : (i : ℕ) → i < k → rowM k l R i < 2 ^ n
-  rowM-lt i h = row-lt (2 ^ i) (column R i) 0 (pow-lt h) (column-R i) (pow-pos rest)
+  rowM-lt i h = row-lt (2 ^ i) (column R i) 0 (pow-lt h) (R-lt n k l P R Q ok i) (pow-pos rest)
 
   low-built : (i : ℕ) → i < n + k → getD (built n k l P R Q) i 0 < 2 ^ n
   low-built i h = go (decLt i k) (decLt i (k + l)) (decLt i n)
@@ -157,20 +148,20 @@ module _ (n k l : ℕ) (P R Q : List ℕ) (ok : Fits n k l P R Q) where
       by-part {A = λ i. offCode made i ≡ false} k l
       (λ i h. not-off 0 (G made) (H made) i
       (λ c m. ap₂ product (G-row1 i h) (row-H c (omega (arith, count-H)))
-      ∙ G1-H k l P R Q (ok .rows-P) (ok .rows-R) (ok .rows-Q) (ok .columns-R) i c h ∙ sym (zero-wanted i c)))
+      ∙ G1-H n k l P R Q ok i c h ∙ sym (zero-wanted i c)))
       (λ j h. not-off 0 (G made) (H made) (k + j)
       (λ c m. ap₂ product (G-row0 j h) (row-H c (omega (arith, count-H)))
-      ∙ G0-H k l P R Q (ok .rows-P) (ok .rows-R) (ok .rows-Q) (ok .columns-R) j c h ∙ sym (zero-wanted (k + j) c)))
+      ∙ G0-H n k l P R Q ok j c h ∙ sym (zero-wanted (k + j) c)))
 
   on-message : (i : ℕ) → i < k + l → offMessage made i ≡ false
   on-message =
       by-part {A = λ i. offMessage made i ≡ false} k l
       (λ i h. not-off 1 (G made) (M made) i
       (λ j m. let q : j < k = omega (arith, count-M) in ap₂ product (G-row1 i h) (row-M j q)
-      ∙ G1-M k l P R Q (ok .rows-P) (ok .rows-R) (ok .rows-Q) (ok .columns-R) i j h q ∙ sym (unit-wanted i j)))
+      ∙ G1-M n k l P R Q ok i j h q ∙ sym (unit-wanted i j)))
       (λ j h. not-off 1 (G made) (M made) (k + j)
       (λ i m. let q : i < k = omega (arith, count-M) in ap₂ product (G-row0 j h) (row-M i q)
-      ∙ G0-M k l P R Q (ok .rows-P) (ok .rows-R) (ok .rows-Q) (ok .columns-R) j i h q ∙ sym (no-wanted 1 (k + j) i (λ e. omega arith))))
+      ∙ G0-M n k l P R Q ok j i h q ∙ sym (no-wanted 1 (k + j) i (λ e. omega arith))))
 
   -- ---- rules 5 and 6: the identities in [R I Q] and [Pᵀ (Q + RP)ᵀ I]
 
@@ -187,7 +178,7 @@ module _ (n k l : ℕ) (P R Q : List ℕ) (ok : Fits n k l P R Q) where
       free-identity (H made) (k + l)
       (λ i j h m.
       ap (λ (x : ℕ). cell x (k + l + j)) (row-H i (omega (arith, count-H)))
-      ∙ cell-last k l (column P i) (column (mixed P R Q) i) (2 ^ i) (column-P i) (column-mixed i) j)
+      ∙ cell-last k l (column P i) (column (mixed P R Q) i) (2 ^ i) (P-lt n k l P R Q ok i) (mixed-lt n k l P R Q ok i) j)
 
   -- ---- all six
 
@@ -207,17 +198,11 @@ module _ (n k l : ℕ) (P R Q : List ℕ) (ok : Fits n k l P R Q) where
 
   -- ---- and it has the shape, with these tables
 
-  length-G1 : length (builtG1 k l P) ≡ k
-  length-G1 = ap length (rows-G1 k l P R Q) ∙ length-each k (rowG1 k l P)
-
-  length-G0 : length (builtG0 k l R Q) ≡ l
-  length-G0 = ap length (rows-G0 k l P R Q (ok .rows-R)) ∙ length-each l (rowG0 k l R Q)
-
   pub built-systematic : Systematic made P R Q
   unfolding built
   built-systematic = record {
     fits = ok;
-    is-G1 = take-at (builtG1 k l P) (builtG0 k l R Q ++ (builtH rest k l P R Q ++ builtM k l R)) k length-G1;
-    is-G0 = ap (take l) (drop-at (builtG1 k l P) (builtG0 k l R Q ++ (builtH rest k l P R Q ++ builtM k l R)) k length-G1)
-        ∙ take-at (builtG0 k l R Q) (builtH rest k l P R Q ++ builtM k l R) l length-G0;
+    is-G1 = take-at (builtG1 k l P) (builtG0 k l R Q ++ (builtH rest k l P R Q ++ builtM k l R)) k (length-G1 k l P);
+    is-G0 = ap (take l) (drop-at (builtG1 k l P) (builtG0 k l R Q ++ (builtH rest k l P R Q ++ builtM k l R)) k (length-G1 k l P))
+        ∙ take-at (builtG0 k l R Q) (builtH rest k l P R Q ++ builtM k l R) l (length-G0 k l R Q (ok .rows-R));
   }

@@ -28,17 +28,31 @@ blocks-rows k l m A B C row e h =
 joined-same : (k l : ℕ) {a b c x y z : ℕ} → a ≡ x → b ≡ y → c ≡ z → joined k l a b c ≡ joined k l x y z
 joined-same k l {a} {b} {c} {x} {y} {z} p q s = ap₂ (λ (u v : ℕ). joined k l u v c) p q ∙ ap (joined k l x y) s
 
-module _ (k l : ℕ) (P R Q : List ℕ) where
-  pub rows-G1 : builtG1 k l P ≡ each k (rowG1 k l P)
+module _ (k l : ℕ) (P : List ℕ) where
+  rows-G1 : builtG1 k l P ≡ each k (rowG1 k l P)
   rows-G1 =
       blocks-rows k l k (identity k) (zeros k) P (rowG1 k l P) (length-each k (λ i. 2 ^ i))
       (λ i h. ap₂ (λ (u v : ℕ). joined k l u v (getD P i 0)) (getD-each k (λ j. 2 ^ j) i h) (getD-each k (λ j. 0) i h))
 
-  pub rows-G0 : length R ≡ l → builtG0 k l R Q ≡ each l (rowG0 k l R Q)
-  rows-G0 e =
-      blocks-rows k l l R (identity l) Q (rowG0 k l R Q) e
+  pub length-G1 : length (builtG1 k l P) ≡ k
+  length-G1 = ap length rows-G1 ∙ length-each k (rowG1 k l P)
+
+  pub row-of-G1 : (i : ℕ) → i < k → getD (builtG1 k l P) i 0 ≡ rowG1 k l P i
+  row-of-G1 i h = ap (λ (rows : List ℕ). getD rows i 0) rows-G1 ∙ getD-each k (rowG1 k l P) i h
+
+module _ (k l : ℕ) (R Q : List ℕ) (count : length R ≡ l) where
+  rows-G0 : builtG0 k l R Q ≡ each l (rowG0 k l R Q)
+  rows-G0 =
+      blocks-rows k l l R (identity l) Q (rowG0 k l R Q) count
       (λ j h. ap (λ (v : ℕ). joined k l (getD R j 0) v (getD Q j 0)) (getD-each l (λ i. 2 ^ i) j h))
 
+  pub length-G0 : length (builtG0 k l R Q) ≡ l
+  length-G0 = ap length rows-G0 ∙ length-each l (rowG0 k l R Q)
+
+  pub row-of-G0 : (j : ℕ) → j < l → getD (builtG0 k l R Q) j 0 ≡ rowG0 k l R Q j
+  row-of-G0 j h = ap (λ (rows : List ℕ). getD rows j 0) rows-G0 ∙ getD-each l (rowG0 k l R Q) j h
+
+module _ (k l : ℕ) (P R Q : List ℕ) where
   rows-H : (r : ℕ) → builtH r k l P R Q ≡ each r (rowH k l P R Q)
   rows-H r =
       blocks-rows k l r (transposed r P) (transposed r (mixed P R Q)) (identity r) (rowH k l P R Q) (length-each r (column P))
@@ -51,7 +65,7 @@ module _ (k l : ℕ) (P R Q : List ℕ) where
 
   pub built-rows : (n : ℕ) → length R ≡ l → built n k l P R Q ≡ rowsOf n k l P R Q
   unfolding built
-  built-rows n e = ap₂ _++_ rows-G1 (ap₂ _++_ (rows-G0 e) (ap₂ _++_ (rows-H (n - (k + l))) rows-M))
+  built-rows n e = ap₂ _++_ (rows-G1 k l P) (ap₂ _++_ (rows-G0 k l R Q e) (ap₂ _++_ (rows-H (n - (k + l))) rows-M))
 
 -- ---- "Q + RP"
 

@@ -4,7 +4,7 @@ use mathlib.Core.Path.{_≡_, refl, sym, ap, ap₂, _∙_, subst}
 use mathlib.Core.Bool.{Bool, not, _&&_}
 use mathlib.Core.Logic.{_↔_}
 use mathlib.Core.List.{List, [], _∷_}
-use Prim.Native.Nat.{ℕ, _+_, _*_, _%_, _^_, _<_}
+use Prim.Native.Nat.{ℕ, _+_, _%_, _^_, _<_}
 use native.Mathlib.Decide.{ℕ-discrete}
 use native.Mathlib.Nat.{mod-lt}
 use borrow.Author.Tests.{ne-eqb, eqb-true}
@@ -20,18 +20,12 @@ use Rattle.paper.specs.Sheet.{Sheet, sheet, G1, G0, H, M, Admitted, WordOf}
 use Rattle.paper.specs.Words.{width, products, sum, _⊕_}
 use Rattle.paper.specs.Writing.{wordOf, fits, misplaced, fitting, chosen, writesAdmitted, writes}
 use Rattle.words.proofs.Firsts.{first-same}
-use Rattle.words.proofs.Products.{product-low, products-lt}
-use Rattle.elimination.proofs.Span.{All, Low}
+use Rattle.words.proofs.Products.{products-lt}
+use Rattle.elimination.proofs.Span.{products-low}
 use Rattle.listing.proofs.Searched.{search-same, found-first}
 use Rattle.sheet.proofs.Messages.{words-of}
 use Rattle.sheet.proofs.Tests.{eqb-same}
 use Rattle.sheet.proofs.Verdicts.{sound, admitted-next}
-
--- the products with rows over n cells do not see the cells above
-products-low : (n : ℕ) (rows : List ℕ) → All (Low n) rows → (x : ℕ) → products rows (x % 2 ^ n) ≡ products rows x
-unfolding products
-products-low n [] a x = refl
-products-low n (row ∷ rows) a x = ap₂ (λ (u v : ℕ). u + 2 * v) (product-low n row x (a .0)) (products-low n rows (a .1) x)
 
 -- the words of a message with one sheet are its words with the other
 module _ (n k l : ℕ) (rows rows′ : List ℕ) where

@@ -14,9 +14,9 @@ use Rattle.paper.specs.Sheet.{Sheet, r, G1, G0}
 use Rattle.paper.specs.Tables.{cells, builtG1, builtG0, tableP, tableR, tableQ, alike, systematic}
 use Rattle.sheet.specs.Sound.{Sound}
 use Rattle.blocks.proofs.Blocks.{joined-first, joined-last}
-use Rattle.blocks.proofs.Lists.{length-each, getD-each, getD-map, alike-same, alike-rows}
+use Rattle.blocks.proofs.Lists.{getD-map, alike-same, alike-rows}
 use Rattle.building.specs.Rows.{rowG1, rowG0}
-use Rattle.building.proofs.Rows.{rows-G1, rows-G0}
+use Rattle.building.proofs.Rows.{length-G1, row-of-G1, length-G0, row-of-G0}
 
 -- ---- cells of rows
 
@@ -45,16 +45,16 @@ module _ (s : Sheet) (P R Q : List ℕ) (h : Systematic s P R Q) where
   l = s .l
 
   row-G1 : (i : ℕ) → i < k → getD (G1 s) i 0 ≡ rowG1 k l P i
-  row-G1 i q = ap (λ (gs : List ℕ). getD gs i 0) (h .is-G1 ∙ rows-G1 k l P R Q) ∙ getD-each k (rowG1 k l P) i q
+  row-G1 i q = ap (λ (gs : List ℕ). getD gs i 0) (h .is-G1) ∙ row-of-G1 k l P i q
 
   row-G0 : (j : ℕ) → j < l → getD (G0 s) j 0 ≡ rowG0 k l R Q j
-  row-G0 j q = ap (λ (gs : List ℕ). getD gs j 0) (h .is-G0 ∙ rows-G0 k l P R Q (h .fits .rows-R)) ∙ getD-each l (rowG0 k l R Q) j q
+  row-G0 j q = ap (λ (gs : List ℕ). getD gs j 0) (h .is-G0) ∙ row-of-G0 k l R Q (h .fits .rows-R) j q
 
   count-G1 : length (G1 s) ≡ k
-  count-G1 = ap length (h .is-G1 ∙ rows-G1 k l P R Q) ∙ length-each k (rowG1 k l P)
+  count-G1 = ap length (h .is-G1) ∙ length-G1 k l P
 
   count-G0 : length (G0 s) ≡ l
-  count-G0 = ap length (h .is-G0 ∙ rows-G0 k l P R Q (h .fits .rows-R)) ∙ length-each l (rowG0 k l R Q)
+  count-G0 = ap length (h .is-G0) ∙ length-G0 k l R Q (h .fits .rows-R)
 
   pub only-P : tableP s ≡ P
   only-P =
@@ -104,8 +104,6 @@ module _ (s : Sheet) (ok : Sound s) where
       let p = and-eq-true-iff (alike (G1 s) (builtG1 k l (tableP s))) (alike (G0 s) (builtG0 k l (tableR s) (tableQ s))) .0 e in
       record {
         fits = tables-fit;
-        is-G1 = alike-rows (G1 s) (builtG1 k l (tableP s))
-            (ok .count-G1 ∙ sym (ap length (rows-G1 k l (tableP s) (tableR s) (tableQ s)) ∙ length-each k (rowG1 k l (tableP s)))) (p .0);
-        is-G0 = alike-rows (G0 s) (builtG0 k l (tableR s) (tableQ s))
-            (ok .count-G0 ∙ sym (ap length (rows-G0 k l (tableP s) (tableR s) (tableQ s) (tables-fit .rows-R)) ∙ length-each l (rowG0 k l (tableR s) (tableQ s)))) (p .1);
+        is-G1 = alike-rows (G1 s) (builtG1 k l (tableP s)) (ok .count-G1 ∙ sym (length-G1 k l (tableP s))) (p .0);
+        is-G0 = alike-rows (G0 s) (builtG0 k l (tableR s) (tableQ s)) (ok .count-G0 ∙ sym (length-G0 k l (tableR s) (tableQ s) (tables-fit .rows-R))) (p .1);
       }

@@ -18,9 +18,7 @@ use Rattle.sheet.specs.Sound.{Sound}
 use Rattle.sheet.proofs.Tests.{eqb-same}
 use Rattle.sheet.proofs.Verdicts.{all-at}
 use Rattle.blocks.proofs.Blocks.{joined-middle, joined-front, front-joined, joined-back}
-use Rattle.blocks.proofs.Lists.{getD-each}
-use Rattle.building.specs.Rows.{rowG1, rowG0}
-use Rattle.building.proofs.Rows.{rows-G1, rows-G0}
+use Rattle.building.proofs.Rows.{row-of-G1, row-of-G0}
 use Rattle.tables.specs.Identities.{identityAt}
 use Rattle.tables.proofs.Back.{table-at}
 
@@ -53,7 +51,7 @@ module _ (s : Sheet) (ok : Sound s) where
       -- what row i should be
       row : (i : ℕ) → i < k → getD (builtG1 k l (tableP s)) i 0 ≡ joined k l (2 ^ i) 0 (getD (G1 s) i 0 / 2 ^ (k + l))
       row i q =
-          ap (λ (gs : List ℕ). getD gs i 0) (rows-G1 k l (tableP s) (tableR s) (tableQ s)) ∙ getD-each k (rowG1 k l (tableP s)) i q
+          row-of-G1 k l (tableP s) i q
           ∙ ap (joined k l (2 ^ i) 0)
           (table-at (k + l) (r s) (G1 s) i ∙ last-cells (getD (G1 s) i 0) (all-at (Low (s .n)) (G1 s) (ok .low-G1) i (omega (arith, ok .count-G1))))
 
@@ -79,7 +77,7 @@ module _ (s : Sheet) (ok : Sound s) where
       row : (j : ℕ) → j < l → getD (builtG0 k l (tableR s) (tableQ s)) j 0
           ≡ joined k l (cells 0 k (getD (G0 s) j 0)) (2 ^ j) (getD (G0 s) j 0 / 2 ^ (k + l))
       row j q =
-          ap (λ (gs : List ℕ). getD gs j 0) (rows-G0 k l (tableP s) (tableR s) (tableQ s) count-R) ∙ getD-each l (rowG0 k l (tableR s) (tableQ s)) j q
+          row-of-G0 k l (tableR s) (tableQ s) count-R j q
           ∙ ap₂ (λ (a c : ℕ). joined k l a (2 ^ j) c) (table-at 0 k (G0 s) j)
           (table-at (k + l) (r s) (G0 s) j ∙ last-cells (getD (G0 s) j 0) (all-at (Low (s .n)) (G0 s) (ok .low-G0) j (omega (arith, ok .count-G0))))
 
