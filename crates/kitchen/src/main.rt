@@ -50,7 +50,7 @@ fn put_d0(out: &mut [u8], at: usize, rows: &[Word]) -> usize
     ensures { λ r. ⌜ r ≤ at + 60 ⌝ }
 {
     match store::measure_d0(N, K, L, rows, 8) {
-        MeasuredD0::Distance { d, tried } => put_tried(out, at, b"d0 ", d, tried),
+        MeasuredD0::Distance { d, tried } => put_tried(out, at, b"d0 ", d as Word, tried),
         _ => put_refusal(out, at),
     }
 }
@@ -65,7 +65,7 @@ fn put_d1(out: &mut [u8], at: usize, rows: &[Word]) -> usize
             d,
             tried,
             radius: _,
-        } => put_tried(out, at, b"d1 ", d, tried),
+        } => put_tried(out, at, b"d1 ", d as Word, tried),
         _ => put_refusal(out, at),
     }
 }

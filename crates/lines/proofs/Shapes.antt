@@ -58,16 +58,6 @@ none-left u e t = eqb-true (length u) 0 (sym e ∙ t)
 pub some-left : {b : Bool} (u : List ℕ) → b ≡ eqb (length u) 0 → b ≡ false → 0 < length u
 some-left u e t = omega (arith, eqb-false (length u) 0 (sym e ∙ t))
 
--- every place's most is one that a word holds
-pub most-le : (letter : ℕ) → mostOf letter ≤ 2 ^ width - 1
-most-le letter = go (eqb letter 119) (eqb letter 98) (eqb letter 109)
-  where
-    go : (w b m : Bool) → cond w (2 ^ width - 1) (cond b (2 ^ 8 - 1) (cond m mostRoom (2 ^ 32 - 1))) ≤ 2 ^ width - 1
-    go true b m = omega arith
-    go false true m = omega arith
-    go false false true = omega arith
-    go false false false = omega arith
-
 -- the next letter is that of an item
 pub letter-item : (wide : Bool) (left : ℕ) (rest : List ℕ) → 0 < left → getD (items wide left ++ rest) 0 0 ≡ itemOf wide left
 letter-item wide zero rest h = absurd (omega arith)

@@ -32,13 +32,13 @@ pub fn pread(ns: &[Word]) -> Numbers
     let from = rows + 1 + 1;
     let end = from + ns[rows + 1] as usize;
     of_reading(page::page_read(
-        ns[0],
-        ns[1],
-        ns[2],
+        ns[0] as u32,
+        ns[1] as u32,
+        ns[2] as u32,
         &ns[4..rows],
         &ns[from..end],
-        ns[end],
-        ns[end + 1],
+        ns[end] as u32,
+        ns[end + 1] as u32,
     ))
 }
 
@@ -74,8 +74,8 @@ fn copy_records(ns: &[Word], from: usize, count: usize) -> [StuckCell; ROOM_RECO
     while i < count {
         let at = from + 3 * i;
         records[i] = StuckCell {
-            slot: ns[at],
-            cell: ns[at + 1],
+            slot: ns[at] as u32,
+            cell: ns[at + 1] as u32,
             level: ns[at + 2] as u8,
         };
         i += 1;
@@ -97,14 +97,14 @@ fn write_page(ns: &[Word], page: &mut [Word]) -> Numbers
     let held = smaller(count, ROOM_RECORDS);
     let records = copy_records(ns, end + 1, held);
     of_written(lent::page_write(
-        ns[0],
-        ns[1],
-        ns[2],
+        ns[0] as u32,
+        ns[1] as u32,
+        ns[2] as u32,
         &ns[4..rows],
         page,
         records,
         held,
-        ns[last],
+        ns[last] as u32,
         ns[last + 1],
     ))
 }

@@ -44,7 +44,7 @@ M s = take (s .k) (drop (s .n) (s .rows))
 abbrev pub G : Sheet → List ℕ
 G s = take (s .k + s .l) (s .rows)
 
--- "1 ≤ n ≤ 32, k ≥ 1, k + l ≤ n, the lent rows are n + k in number"
+-- "k ≥ 1, k + l ≤ n, the lent rows are n + k in number", and since request 5 "n may be 1 to 64"
 abbrev pub shaped : Sheet → Bool
 shaped s = leb 1 (s .n) && leb (s .n) width && leb 1 (s .k) && leb (s .k + s .l) (s .n) && eqb (length (s .rows)) (s .n + s .k)
 

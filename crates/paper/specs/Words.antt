@@ -5,9 +5,9 @@ use lib.Bits.{bitAnd, bitXor}
 use lib.Count.{ones}
 
 infixl 60 _⊕_
--- the number of cells that a machine's word has: "unsigned 32-bit words"
+-- the number of cells that a machine's word has. Document 02, request 5: "rows, words and messages are 64 bits wide"
 abbrev pub width : ℕ
-width = 32
+width = 64
 
 -- "Bit i of a row is cell i; cell 0 is the lowest bit."
 abbrev pub cell : ℕ → ℕ → ℕ

@@ -2,13 +2,13 @@
 // of document 01, stands in specs/Refusals.antt.
 
 // A word of cells: a row, a message, a word read or written, stuck cells and their levels, a choice of rows.
-pub type Word = u32;
+pub type Word = u64;
 
 // A number of listed words.
-pub type Count = u32;
+pub type Count = u64;
 
 // The number of cells that a word of the machine has: `width` of specs/Words.antt.
-pub const WIDTH: u32 = 32;
+pub const WIDTH: u32 = 64;
 
 // The largest radius: `mostRadius` of specs/Reading.antt.
 pub const MOST_RADIUS: u32 = 4;

@@ -6,7 +6,7 @@ use Rattle.paper.specs.Words.{width, products}
 use Rattle.paper.specs.Sheet.{Sheet, r, G1, G0, H, M}
 use Rattle.elimination.proofs.Span.{All, Low, Free}
 
--- "1 ≤ n ≤ 32, k ≥ 1, k + l ≤ n, the lent rows are n + k in number"
+-- "k ≥ 1, k + l ≤ n, the lent rows are n + k in number", and n is 1 to the width
 pub record Shaped (s : Sheet) : Type 0 where
   pub some-cells : 1 ≤ s .n
   pub few-cells : s .n ≤ width

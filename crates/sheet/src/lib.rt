@@ -1,7 +1,7 @@
 // Admitting a sheet: refusals 1 to 6 of document 01, in the order of its table.
 ghost use mathlib.Core.Path.{_≡_};
 ghost use mathlib.Core.List.{[]};
-ghost use Prim.Native.Nat.{_+_, _^_, _≤_, _<_};
+ghost use Prim.Native.Nat.{_+_, _*_, _^_, _≤_};
 ghost use lib.Dec.{leb};
 ghost use lib.ListN.{length, getD, take, drop};
 ghost use Rattle.paper.specs.First.{first};
@@ -29,7 +29,7 @@ pub fn part(rows: &[Word], from: u32, count: u32) -> &[Word]
     &rows[start..end]
 }
 
-// "1 ≤ n ≤ 32, k ≥ 1, k + l ≤ n, the lent rows are n + k in number". n, k and l are any numbers: no sum is taken that could wrap.
+// "k ≥ 1, k + l ≤ n, the lent rows are n + k in number", and n is 1 to the width. n, k and l are any numbers: no sum is taken that could wrap.
 pub fn is_shaped(n: u32, k: u32, l: u32, rows: &[Word]) -> bool
     ensures { λ r. ⌜ r ≡ shaped (sheet n k l (now (rows .entry))) ⌝ }
 {
@@ -53,7 +53,7 @@ pub fn is_shaped(n: u32, k: u32, l: u32, rows: &[Word]) -> bool
 
 // The first row that "has a bit at cell n or above".
 pub fn find_stray(n: u32, rows: &[Word]) -> Place
-    requires { ⌜ (n ≤ width) × (length (now rows) < 2 ^ width) ⌝ }
+    requires { ⌜ (n ≤ width) × (length (now rows) ≤ 2 * width) ⌝ }
     ensures { λ r. ⌜ asFirst r ≡ first (length (now (rows .entry))) (λ i. leb (2 ^ n) (getD (now (rows .entry)) i 0)) ⌝ }
 {
     let mut i = 0;

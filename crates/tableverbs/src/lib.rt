@@ -85,9 +85,9 @@ pub fn tosheet(ns: &[Word], out: &mut [u8]) -> usize
     let size = asked.size;
     let mut room = room_of(asked.fill);
     build_in(
-        ns[0],
-        ns[1],
-        ns[2],
+        ns[0] as u32,
+        ns[1] as u32,
+        ns[2] as u32,
         list_at(ns, 3),
         list_at(ns, at_r),
         list_at(ns, at_q),
@@ -145,9 +145,9 @@ pub fn totables(ns: &[Word], out: &mut [u8]) -> usize
     let mut r = room_of(for_r.fill);
     let mut q = room_of(for_q.fill);
     give_in(
-        ns[0],
-        ns[1],
-        ns[2],
+        ns[0] as u32,
+        ns[1] as u32,
+        ns[2] as u32,
         list_at(ns, 3),
         &mut p[..size_p],
         &mut r[..size_r],

@@ -42,6 +42,15 @@ large : reply (asked table (bytes "tosheet 1 1 0 1 0 0 0 4097 0")) ≡ bytes "un
 unfolding cut asked comes spelled lookup same fill numeral valued
 large = refl
 
-over : reply (asked table (bytes "write 3 1 2 4 1 3 5 7 1 4294967296 0")) ≡ bytes "unknown\n"
+-- a word of 64 bits, one that is too large, and a number that is no word
+wide : reply (asked table (bytes "write 3 1 2 4 1 3 5 7 1 9223372036854775808 0")) ≡ bytes "refused 8 63\n"
+unfolding cut asked comes spelled lookup same fill numeral valued judged writes first labelled upTo digitsOf ones sum
+wide = refl
+
+over : reply (asked table (bytes "write 3 1 2 4 1 3 5 7 1 18446744073709551616 0")) ≡ bytes "unknown\n"
 unfolding cut asked comes spelled lookup same fill numeral valued
 over = refl
+
+number : reply (asked table (bytes "admit 4294967296 1 0 0")) ≡ bytes "unknown\n"
+unfolding cut asked comes spelled lookup same fill numeral valued
+number = refl

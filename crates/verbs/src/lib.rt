@@ -36,7 +36,7 @@ fn admit(ns: &[Word]) -> Numbers
     ensures { λ r. ⌜ tells r ≡ admits (sheetIn (now (ns .entry))) ⌝ }
 {
     let at = 4 + ns[3] as usize;
-    of_admission(store::admit(ns[0], ns[1], ns[2], &ns[4..at]))
+    of_admission(store::admit(ns[0] as u32, ns[1] as u32, ns[2] as u32, &ns[4..at]))
 }
 
 // `write SHEET message stuck levels`.
@@ -46,9 +46,9 @@ fn write(ns: &[Word]) -> Numbers
 {
     let at = 4 + ns[3] as usize;
     of_written(store::write(
-        ns[0],
-        ns[1],
-        ns[2],
+        ns[0] as u32,
+        ns[1] as u32,
+        ns[2] as u32,
         &ns[4..at],
         ns[at],
         ns[at + 1],
@@ -62,7 +62,14 @@ fn read(ns: &[Word]) -> Numbers
     ensures { λ r. ⌜ tells r ≡ reads (sheetIn (now (ns .entry))) (arg (now (ns .entry)) 0) (arg (now (ns .entry)) 1) ⌝ }
 {
     let at = 4 + ns[3] as usize;
-    of_reading(store::read(ns[0], ns[1], ns[2], &ns[4..at], ns[at], ns[at + 1]))
+    of_reading(store::read(
+        ns[0] as u32,
+        ns[1] as u32,
+        ns[2] as u32,
+        &ns[4..at],
+        ns[at],
+        ns[at + 1] as u32,
+    ))
 }
 
 // `d0 SHEET cap`.
@@ -71,7 +78,13 @@ fn d0(ns: &[Word]) -> Numbers
     ensures { λ r. ⌜ tells r ≡ measuresD0 (sheetIn (now (ns .entry))) (arg (now (ns .entry)) 0) ⌝ }
 {
     let at = 4 + ns[3] as usize;
-    of_d0(store::measure_d0(ns[0], ns[1], ns[2], &ns[4..at], ns[at]))
+    of_d0(store::measure_d0(
+        ns[0] as u32,
+        ns[1] as u32,
+        ns[2] as u32,
+        &ns[4..at],
+        ns[at] as u32,
+    ))
 }
 
 // `d1 SHEET cap`.
@@ -80,7 +93,13 @@ fn d1(ns: &[Word]) -> Numbers
     ensures { λ r. ⌜ tells r ≡ measuresD1 (sheetIn (now (ns .entry))) (arg (now (ns .entry)) 0) ⌝ }
 {
     let at = 4 + ns[3] as usize;
-    of_d1(store::measure_d1(ns[0], ns[1], ns[2], &ns[4..at], ns[at]))
+    of_d1(store::measure_d1(
+        ns[0] as u32,
+        ns[1] as u32,
+        ns[2] as u32,
+        &ns[4..at],
+        ns[at] as u32,
+    ))
 }
 
 // Puts the text of the answer to a verb's call.

@@ -11,7 +11,7 @@ use paper::WIDTH;
 use paper::Word;
 
 // The word that is 1 at every cell.
-pub const ALL_CELLS: Word = u32::MAX;
+pub const ALL_CELLS: Word = u64::MAX;
 
 // The first row or cell with a property, or that there is none.
 pub enum Place {
@@ -24,14 +24,14 @@ pub enum Place {
 pub fn product_of(a: Word, b: Word) -> Word
     ensures { λ r. ⌜ r ≡ product a b ⌝ }
 {
-    u32::count_ones(a & b) % 2
+    (u64::count_ones(a & b) % 2) as Word
 }
 
 // "weight (number of ones)"
 pub fn weight_of(x: Word) -> u32
     ensures { λ r. ⌜ r ≡ weight x ⌝ }
 {
-    u32::count_ones(x)
+    u64::count_ones(x)
 }
 
 // The products of x with each row, bit i for row i: of M's rows, the message of x.
@@ -72,7 +72,7 @@ pub fn lowest_of(x: Word) -> Place
     if x == 0 {
         Place::Nowhere
     } else {
-        Place::At(u32::trailing_zeros(x))
+        Place::At(u64::trailing_zeros(x))
     }
 }
 

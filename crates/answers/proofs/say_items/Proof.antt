@@ -20,9 +20,6 @@ Inv-loop out₀ at xs to₀ i₀ space out to i =
 abbrev μ-loop : tie.MeasureT-loop
 μ-loop out₀ at xs to₀ i₀ space out to i = length xs - i
 
-cast-put-number : tie.Need-cast-put-number Inv-loop μ-loop
-cast-put-number c = omega (arith, c .shared-slice-known2 .given (c .before .before .before .before .before .before .before .before .loop .i))
-
 put-number-requires : tie.Need-put-number-requires Inv-loop μ-loop
 put-number-requires c κs =
     let c4 = c .before .before .before .before in
@@ -55,4 +52,4 @@ pub say-items-spec : {M : Type 1} → statement M
 say-items-spec =
     tie.close
     (tie.spec Inv-loop μ-loop (λ c. (omega arith, refl, omega arith, refl, refl)) (λ c. search needs) (λ c κs. omega arith) (λ c. omega arith) (λ c. omega arith)
-    cast-put-number put-number-requires (λ c. omega arith) (λ c. omega arith) loop-again (λ c. omega arith) returns)
+    put-number-requires (λ c. omega arith) (λ c. omega arith) loop-again (λ c. omega arith) returns)

@@ -1,5 +1,5 @@
 -- `copy_records` meets its contract: the first i records of the room are the first i of the line.
--- A level is one of 8 bits, which the shape of the verb has.
+-- Slot and cell are numbers of 32 bits and a level one of 8, which the shape of the verb has.
 use mathlib.Core.Path.{_≡_, refl, subst}
 use Prim.Native.Nat.{ℕ, _-_, _≤_}
 use native.Mathlib.Omega.{arith}
@@ -15,10 +15,20 @@ Inv-loop ns from count records₀ i₀ records i = (i ≤ count) × (length reco
 abbrev μ-loop : tie.MeasureT-loop
 μ-loop ns from count records₀ i₀ records i = count - i
 
-cast-t20 : tie.Need-cast-t20 Inv-loop μ-loop
-cast-t20 c =
+cast-t12 : tie.Need-cast-t12 Inv-loop μ-loop
+cast-t12 c =
+    let c2 = c .before .before in
+    omega (arith, c2 .before .pre .1 .1 (c2 .loop .i) (omega arith))
+
+cast-t17 : tie.Need-cast-t17 Inv-loop μ-loop
+cast-t17 c =
+    let c3 = c .before .before .before in
+    omega (arith, c3 .before .pre .1 .1 (c3 .loop .i) (omega arith))
+
+cast-t22 : tie.Need-cast-t22 Inv-loop μ-loop
+cast-t22 c =
     let c4 = c .before .before .before .before in
-    omega (arith, c4 .before .pre .1 .1 (c4 .loop .i) (omega arith) .2)
+    omega (arith, c4 .before .pre .1 .1 (c4 .loop .i) (omega arith))
 
 loop-again : tie.Need-loop-again Inv-loop μ-loop
 loop-again c =
@@ -37,6 +47,6 @@ returns c =
 pub copy-records-spec : {M : Type 1} → statement M
 copy-records-spec =
     tie.close
-    (tie.spec Inv-loop μ-loop (λ c. (omega arith, refl, records-none _ _)) (λ c. omega arith) (λ c. omega arith) (λ c. omega arith) (λ c. omega arith)
-    (λ c. omega arith) (λ c. omega arith) (λ c. omega arith) (λ c. omega arith) (λ c. omega arith) (λ c. omega arith) cast-t20
+    (tie.spec Inv-loop μ-loop (λ c. (omega arith, refl, records-none _ _)) (λ c. omega arith) (λ c. omega arith) (λ c. omega arith) (λ c. omega arith) cast-t12
+    (λ c. omega arith) (λ c. omega arith) (λ c. omega arith) cast-t17 (λ c. omega arith) (λ c. omega arith) (λ c. omega arith) cast-t22
     (λ c. omega arith) (λ c. omega arith) (λ c. omega arith) (λ c. omega arith) loop-again returns)

@@ -120,8 +120,8 @@ returns-2 c =
 pub pwrite-spec : {M : Type 1} → statement M
 pwrite-spec =
     tie.close
-    (tie.spec (λ c. omega arith) (λ c. omega arith) (λ c. omega arith) (λ c. omega arith) (λ c. omega arith) (λ c. omega arith)
-    (λ c. omega arith) (λ c. omega arith) (λ c. omega arith) (λ c κs. search needs) (λ c κs. search needs) (λ c. omega arith)
-    slice-aggregate-write-page write-page-requires (λ c. omega arith) (λ c κs. search needs) (λ c. omega arith) array-share-prefix-page
-    slice-aggregate-say-list-2 say-list-requires (λ c. omega arith) (λ c. omega arith) (λ c. omega arith) (λ c. omega arith) (λ c. omega arith)
-    (λ c κs. search needs) (λ c. omega arith) returns (λ c. omega arith) returns-2)
+    (tie.spec (λ c. omega arith) (λ c. omega arith) (λ c. omega arith) (λ c. omega arith) (λ c. omega arith) (λ c. omega arith) (λ c. omega arith)
+    (λ c κs. search needs) (λ c κs. search needs) (λ c. omega arith) slice-aggregate-write-page write-page-requires (λ c. omega arith)
+    (λ c κs. search needs) (λ c. omega arith) array-share-prefix-page slice-aggregate-say-list-2 say-list-requires (λ c. omega arith)
+    (λ c. omega arith) (λ c. omega arith) (λ c. omega arith) (λ c. omega arith) (λ c κs. search needs) (λ c. omega arith) returns (λ c. omega arith)
+    returns-2)

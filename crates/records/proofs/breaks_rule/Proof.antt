@@ -21,4 +21,6 @@ returns-5 c = search (needs, free)
 
 pub breaks-rule-spec : {M : Type 1} → statement M
 breaks-rule-spec =
-    tie.close (tie.spec returns returns-2 returns-3 (λ c. search needs) (λ c. search needs) (λ c. search needs) returns-4 returns-5)
+    tie.close
+    (tie.spec returns returns-2 returns-3 (λ c. search needs) (λ c. search needs) (λ c. search needs) (λ c. search needs) (λ c. search needs) returns-4
+    returns-5)

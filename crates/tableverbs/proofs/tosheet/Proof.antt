@@ -45,7 +45,7 @@ pub tosheet-spec : {M : Type 1} → statement M
 tosheet-spec =
     tie.close
     (tie.spec (λ c. omega arith) (λ c. omega arith) (λ c. omega arith) (λ c. omega arith) (λ c. omega arith) (λ c. omega arith)
-    (λ c. omega arith) (λ c. omega arith) (λ c. omega arith) (λ c. omega arith) (λ c. omega arith) (λ c. omega arith) (λ c. omega arith)
-    (λ c κs. (omega arith, omega arith)) (λ c κs. search needs) (λ c. omega arith) (λ c. omega arith) (λ c. omega arith) (λ c κs. (omega arith, omega arith))
-    (λ c κs. (omega arith, omega arith)) (λ c κs. (omega arith, omega arith)) (λ c. omega arith) slice-aggregate-build-in build-in-requires
-    (λ c. search needs) returns)
+    (λ c. omega arith) (λ c. omega arith) (λ c. omega arith) (λ c. omega arith) (λ c κs. (omega arith, omega arith)) (λ c κs. search needs)
+    (λ c. omega arith) (λ c. omega arith) (λ c. omega arith) (λ c. omega arith) (λ c. omega arith) (λ c. omega arith)
+    (λ c κs. (omega arith, omega arith)) (λ c κs. (omega arith, omega arith)) (λ c κs. (omega arith, omega arith)) (λ c. omega arith)
+    slice-aggregate-build-in build-in-requires (λ c. search needs) returns)

@@ -64,11 +64,12 @@ returns c =
 pub totables-spec : {M : Type 1} → statement M
 totables-spec =
     tie.close
-    (tie.spec (λ c. omega arith) (λ c. omega arith) (λ c. omega arith) (λ c κs. (omega arith, omega arith))
+    (tie.spec (λ c. omega arith) (λ c. omega arith) (λ c κs. (omega arith, omega arith))
     (λ c. omega arith) (λ c. omega arith) (λ c κs. (omega arith, omega arith))
     (λ c. omega arith) (λ c. omega arith) (λ c. omega arith) (λ c. omega arith) (λ c κs. (omega arith, omega arith))
     (λ c κs. search needs) (λ c κs. search needs) (λ c κs. search needs)
-    (λ c. placed (c .before) .0) (λ c. placed (c .before .before) .4 .0) (λ c. placed (c .before .before .before) .4 .4 .0)
+    (λ c. placed (c .before) .0) (λ c. omega arith) (λ c. placed (c .before .before) .4 .0) (λ c. omega arith)
+    (λ c. placed (c .before .before .before) .4 .4 .0) (λ c. omega arith)
     (λ c κs. let rows = placed (c .before .before .before) .4 .4 .4 in (rows .0, rows .2))
     (λ c. sized-p (c .before .before .before .before .before .before)) (λ c. sym (length-take-le _ _ (sized-p (c .before .before .before .before .before .before .before))))
     (λ c. sized-r (c .before .before .before .before .before .before)) (λ c. sym (length-take-le _ _ (sized-r (c .before .before .before .before .before .before .before))))

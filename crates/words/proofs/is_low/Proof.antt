@@ -13,4 +13,4 @@ returns c = let a = c .before .args in zero-test (a .x) ∙ ap (λ (m : ℕ). lt
 
 pub is-low-spec : {M : Type 1} → statement M
 is-low-spec =
-    tie.close (tie.spec (λ c. search needs) (λ c. search needs) returns (λ c. low-test (c .before .args .n) (c .before .args .x) (omega arith)))
+    tie.close (tie.spec (λ c. search needs) (λ c. search needs) (λ c. search needs) returns (λ c. low-test (c .before .args .n) (c .before .args .x) (omega arith)))
