@@ -155,11 +155,11 @@ pub length-step : (n v : ℕ) → length (listed (suc n) (suc v)) ≡ length (li
 unfolding listed
 length-step n v = simp (length-append, length-map)
 
-weights-nil : (n v : ℕ) → length (weights n v zero) ≡ 0
+pub weights-nil : (n v : ℕ) → length (weights n v zero) ≡ 0
 unfolding weights
 weights-nil n v = refl
 
-weights-cons : (n v count : ℕ) → length (weights n v (suc count)) ≡ length (listed n v) + length (weights n (suc v) count)
+pub weights-cons : (n v count : ℕ) → length (weights n v (suc count)) ≡ length (listed n v) + length (weights n (suc v) count)
 unfolding weights
 weights-cons n v count = length-append (listed n v) (weights n (suc v) count)
 

@@ -36,7 +36,7 @@ pub data Call : Type 0 where
   word : Sheet → ℕ → ℕ → ℕ → ℕ → Call
 
 -- what the definition of a call tells
-pub outcome : Call → Told
+unfoldable pub outcome : Call → Told
 outcome (write s message stuck levels) = writes s message stuck levels
 outcome (read s y radius) = reads s y radius
 outcome (d0 s cap) = measuresD0 s cap
@@ -49,7 +49,7 @@ pub record Case : Type 0 where
   pub told : Told
 
 infix 70 _gives_
-_gives_ : Call → Told → Case
+unfoldable pub _gives_ : Call → Told → Case
 call gives told = record { call = call; told = told }
 
 -- those marked * in document 01, in its order; then the cellar: 85 with cell 0 turned over is put right at the printed radius, and with cells 0 and 4

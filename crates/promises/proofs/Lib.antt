@@ -24,3 +24,5 @@ pub mod TableOrder
 pub mod Tables
 pub mod TablePinned
 pub mod TableBench
+pub mod Wide
+pub mod WideBench
