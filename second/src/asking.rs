@@ -2,10 +2,9 @@
 
 use crate::making::{sheet_of_numbers, some_sheet};
 use crate::random::Random;
-use crate::sheet::{sum_of, Sheet};
-
-/// The longest list that a call has to go through, as a rule, on more than 20 cells.
-const LONG_LIST: u64 = 50_000;
+use crate::sheet::Sheet;
+use crate::taming::{tame_cap, tame_radius};
+use crate::word::{above, all_ones, sum_of, Wide, Word, MOST_CELLS};
 
 /// The verbs of the calls of document 01.
 #[derive(Clone, Copy, PartialEq, Eq)]
@@ -44,7 +43,7 @@ pub fn good_call(random: &mut Random) -> String {
     };
     let sheet = match verb {
         Verb::D0 | Verb::D1 if random.once_in(2) => {
-            let n = random.between(4, 32);
+            let n = far_cells(random);
             far_sheet(random, verb, n)
         }
         _ => some_sheet(random),
@@ -60,36 +59,49 @@ pub fn any_call(random: &mut Random, verb: Verb, sheet: &Sheet, odd: bool) -> St
         (Verb::Write, true) => odd_write(random, sheet),
         (Verb::Read, false) => good_read(random, sheet),
         (Verb::Read, true) => odd_read(random, sheet),
-        (Verb::D0 | Verb::D1, false) => vec![tame_cap(verb, sheet, random.between(1, 8))],
-        (Verb::D0 | Verb::D1, true) => vec![tame_cap(verb, sheet, odd_limit(random, 10))],
+        (Verb::D0 | Verb::D1, false) => {
+            let cap = Word::from(random.between(1, 8));
+            vec![held_cap(random, verb, sheet, cap)]
+        }
+        (Verb::D0 | Verb::D1, true) => {
+            let cap = odd_limit(random, 10);
+            vec![held_cap(random, verb, sheet, cap)]
+        }
     };
     call_text(verb, sheet, &arguments)
 }
 
 /// A call as a line of the protocol.
-pub fn call_text(verb: Verb, sheet: &Sheet, arguments: &[u32]) -> String {
+pub fn call_text(verb: Verb, sheet: &Sheet, arguments: &[Word]) -> String {
     line_text(verb.name(), sheet, arguments)
 }
 
 /// A line of the protocol: a verb, a sheet and the numbers after it.
-pub fn line_text(verb: &str, sheet: &Sheet, arguments: &[u32]) -> String {
-    let head = [sheet.n, sheet.k, sheet.l];
+pub fn line_text(verb: &str, sheet: &Sheet, arguments: &[Word]) -> String {
+    let head = [sheet.n, sheet.k, sheet.l].map(Word::from);
     numbers_text(verb, &[&head, &list(&sheet.rows)[..], arguments].concat())
 }
 
-/// Any number: a small one, the largest, or any at all.
+/// Any number of 32 bits: a small one, the largest, or any at all.
 pub fn some_number(random: &mut Random) -> u32 {
-    let any = random.word(32);
+    let any = random.number();
     random.one_of(&[0, 1, 3, 9, 10, u32::MAX, any])
 }
 
+/// Any word: a small one, one at the edge of 32 bits, the largest, or any at all.
+pub fn some_word(random: &mut Random) -> Word {
+    let any = random.word(MOST_CELLS);
+    let edge = 1 << 32;
+    random.one_of(&[0, 1, 3, 9, 10, edge - 1, edge, 1 << 63, Word::MAX, any, any])
+}
+
 /// LIST as its numbers: the count, then the entries.
-pub fn list(entries: &[u32]) -> Vec<u32> {
-    [&[entries.len() as u32], entries].concat()
+pub fn list(entries: &[Word]) -> Vec<Word> {
+    [&[entries.len() as Word], entries].concat()
 }
 
 /// A line of the protocol: a verb and numbers.
-pub fn numbers_text(verb: &str, numbers: &[u32]) -> String {
+pub fn numbers_text(verb: &str, numbers: &[Word]) -> String {
     let mut line = verb.to_string();
     for number in numbers {
         line.push(' ');
@@ -98,20 +110,21 @@ pub fn numbers_text(verb: &str, numbers: &[u32]) -> String {
     line
 }
 
-/// The cells of a sheet, also of one whose n is wrong: 1 to 32.
+/// The cells of a sheet, also of one whose n is wrong: 1 to 64.
 pub fn cells(sheet: &Sheet) -> u32 {
-    sheet.n.clamp(1, 32)
+    sheet.n.clamp(1, MOST_CELLS)
 }
 
 /// A message below 2^k, as far as k is a right one.
-pub fn good_message(random: &mut Random, sheet: &Sheet) -> u32 {
-    random.word(sheet.k.min(32))
+pub fn good_message(random: &mut Random, sheet: &Sheet) -> Word {
+    random.word(sheet.k.min(MOST_CELLS))
 }
 
-/// Some word of a message: wG1 + dG0, with any d; 0 on a sheet with too few rows.
-pub fn word_of(random: &mut Random, sheet: &Sheet, message: u32) -> u32 {
+/// Some word of a message: wG1 + dG0, with any d; 0 on a sheet with too few rows, or with
+/// more of a group than a word has bits.
+pub fn word_of(random: &mut Random, sheet: &Sheet, message: Word) -> Word {
     let (k, l) = (sheet.k as usize, sheet.l as usize);
-    if k.saturating_add(l) > sheet.rows.len() || k > 32 || l > 32 {
+    if k.saturating_add(l) > sheet.rows.len() || sheet.k.max(sheet.l) > MOST_CELLS {
         return 0;
     }
     let d = random.word(sheet.l);
@@ -120,10 +133,10 @@ pub fn word_of(random: &mut Random, sheet: &Sheet, message: u32) -> u32 {
 
 /// Message, stuck and levels: none, few, many or all cells stuck, at the levels of a
 /// word of the message, at such levels but for one cell, or at random levels.
-pub fn good_write(random: &mut Random, sheet: &Sheet) -> Vec<u32> {
+pub fn good_write(random: &mut Random, sheet: &Sheet) -> Vec<Word> {
     let n = cells(sheet);
     let message = good_message(random, sheet);
-    let every = u32::MAX >> (32 - n);
+    let every = all_ones(n);
     let stuck = match random.below(8) {
         0 => 0,
         1 | 2 => random.light_word(n, 3),
@@ -144,7 +157,7 @@ pub fn good_write(random: &mut Random, sheet: &Sheet) -> Vec<u32> {
 
 /// Message, stuck and levels of which one or more may be wrong: a message around 2^k,
 /// bits at cell n and above, levels at cells that are not stuck.
-fn odd_write(random: &mut Random, sheet: &Sheet) -> Vec<u32> {
+fn odd_write(random: &mut Random, sheet: &Sheet) -> Vec<Word> {
     let mut arguments = good_write(random, sheet);
     let n = cells(sheet);
     if random.once_in(3) {
@@ -155,41 +168,39 @@ fn odd_write(random: &mut Random, sheet: &Sheet) -> Vec<u32> {
         1 => arguments[2] |= high_bits(random, n),
         2 => {
             arguments[1] |= high_bits(random, n);
-            arguments[2] |= arguments[1] & random.word(32);
+            arguments[2] |= arguments[1] & random.word(64);
         }
         3 => arguments[2] ^= 1 << random.between(0, n - 1),
         4 => arguments[2] = random.word(n),
-        5 => arguments[1] &= random.word(32),
-        6 => arguments[1..].copy_from_slice(&[random.word(32), random.word(32)]),
+        5 => arguments[1] &= random.word(64),
+        6 => arguments[1..].copy_from_slice(&[some_word(random), some_word(random)]),
         _ => (),
     }
     arguments
 }
 
-/// A message around 2^k, or any number at all.
-pub fn odd_message(random: &mut Random, sheet: &Sheet) -> u32 {
-    let limit = 1u64 << sheet.k.min(32);
-    match random.below(5) {
-        0 => (limit - 1) as u32,
-        1 => limit.min(u64::from(u32::MAX)) as u32,
-        2 => (limit + 1).min(u64::from(u32::MAX)) as u32,
-        3 => u32::MAX,
-        _ => random.word(32),
+/// A message around 2^k, as far as a word holds it, or any word at all.
+pub fn odd_message(random: &mut Random, sheet: &Sheet) -> Word {
+    let limit: Wide = 1 << sheet.k.min(MOST_CELLS);
+    let held = |number: Wide| number.min(Wide::from(Word::MAX)) as Word;
+    match random.below(6) {
+        0 => held(limit - 1),
+        1 => held(limit),
+        2 => held(limit + 1),
+        3 => held(limit << 1 | limit),
+        _ => some_word(random),
     }
 }
 
-/// A word with bits at cell n or above only; at n = 32 there are none.
-pub fn high_bits(random: &mut Random, n: u32) -> u32 {
-    let above = u32::MAX.checked_shl(n).unwrap_or(0);
-    match random.below(3) {
-        0 => above & (1u32.checked_shl(n).unwrap_or(0)),
-        1 => above & (1 << 31),
-        _ => above & random.word(32),
-    }
+/// A word with bits at cell n or above only; at n = 64 there are none.
+pub fn high_bits(random: &mut Random, n: u32) -> Word {
+    let (all, any) = (above(n), random.word(MOST_CELLS));
+    let lowest = all & all.wrapping_neg();
+    all & random.one_of(&[lowest, 1 << 31, 1 << 32, 1 << 63, any, any])
 }
 
 /// y and radius: a codeword disturbed in 0 to 5 cells, or any word.
-pub fn good_read(random: &mut Random, sheet: &Sheet) -> Vec<u32> {
+pub fn good_read(random: &mut Random, sheet: &Sheet) -> Vec<Word> {
     let n = cells(sheet);
     let message = good_message(random, sheet);
     let errors = random.between(0, 5);
@@ -197,51 +208,51 @@ pub fn good_read(random: &mut Random, sheet: &Sheet) -> Vec<u32> {
         0 => random.word(n),
         _ => word_of(random, sheet, message) ^ random.light_word(n, errors),
     };
-    vec![y, random.between(0, 4)]
+    let radius = Word::from(random.between(0, 4));
+    vec![y, tame_radius(random, n, radius)]
 }
 
 /// y and radius of which one or both may be wrong.
-fn odd_read(random: &mut Random, sheet: &Sheet) -> Vec<u32> {
+fn odd_read(random: &mut Random, sheet: &Sheet) -> Vec<Word> {
     let mut arguments = good_read(random, sheet);
     if random.once_in(2) {
         arguments[0] |= high_bits(random, cells(sheet));
     }
     if random.once_in(2) {
-        arguments[1] = odd_limit(random, 6);
+        arguments[1] = odd_radius(random, cells(sheet));
     }
     arguments
 }
 
-/// A radius or a cap from 0 to somewhat more than allowed, or a huge one.
-pub fn odd_limit(random: &mut Random, last: u32) -> u32 {
-    match random.below(6) {
+/// A radius or a cap from 0 to somewhat more than allowed, or a huge one of 32 bits.
+fn odd_limit(random: &mut Random, last: u32) -> Word {
+    let limit = match random.below(6) {
         0 => random.one_of(&[256, 257, 1 << 16, 1 << 31, u32::MAX]),
-        1 => random.word(32),
+        1 => random.number(),
         _ => random.between(0, last),
-    }
+    };
+    Word::from(limit)
 }
 
-/// The number of listed words over n cells from weight 0 up to a weight.
-fn list_length(n: u32, weight: u32) -> u64 {
-    let (mut length, mut of_weight) = (1, 1);
-    for v in 1..=u64::from(weight.min(n)) {
-        of_weight = of_weight * (u64::from(n) + 1 - v) / v;
-        length += of_weight;
-    }
-    length
+/// A radius from 0 to somewhat more than allowed, or a huge one.
+pub fn odd_radius(random: &mut Random, n: u32) -> Word {
+    let radius = odd_limit(random, 6);
+    tame_radius(random, n, radius)
 }
 
-/// The cap, or a smaller one where a measurement on more than 20 cells could go through
-/// too long a list. d0 is never above l + 1 and d1 never above r + 1.
-fn tame_cap(verb: Verb, sheet: &Sheet, cap: u32) -> u32 {
+/// The cap, held to a list that is not too long: d0 is never above l + 1 and d1 never above
+/// r + 1.
+fn held_cap(random: &mut Random, verb: Verb, sheet: &Sheet, cap: Word) -> Word {
     let n = cells(sheet);
-    let r = u64::from(n).saturating_sub(u64::from(sheet.k) + u64::from(sheet.l));
-    let checks = if verb == Verb::D0 { sheet.l } else { r as u32 };
-    let mut tame = cap;
-    while n > 20 && cap <= 8 && list_length(n, tame.min(checks.saturating_add(1))) > LONG_LIST {
-        tame -= 1;
-    }
-    tame
+    let r = n.saturating_sub(sheet.k).saturating_sub(sheet.l);
+    let rows = if verb == Verb::D0 { sheet.l } else { r };
+    tame_cap(random, n, rows, cap)
+}
+
+/// The number of cells of a far sheet: 4 to 64, every second time at most 32.
+fn far_cells(random: &mut Random) -> u32 {
+    let (narrow, wide) = (random.between(4, 32), random.between(33, 64));
+    random.one_of(&[narrow, wide])
 }
 
 /// An admitted sheet of at least 4 cells with a small k and, for the distance of this
@@ -251,17 +262,4 @@ pub fn far_sheet(random: &mut Random, verb: Verb, n: u32) -> Sheet {
     let few = random.between(0, (n - k) / 4);
     let l = if verb == Verb::D0 { n - k - few } else { few };
     sheet_of_numbers(random, n, k, l)
-}
-
-#[cfg(test)]
-mod tests {
-    use super::*;
-
-    /// The length of the list, by its rule.
-    #[test]
-    fn lengths_of_lists() {
-        assert_eq!(list_length(32, 4), 41_449);
-        assert_eq!(list_length(32, 8), 15_033_173);
-        assert_eq!(list_length(3, 8), 8);
-    }
 }

@@ -2,7 +2,8 @@
 
 use crate::making::some_sheet;
 use crate::random::Random;
-use crate::sheet::{sum_of, Sheet};
+use crate::sheet::Sheet;
+use crate::word::{sum_of, Word, MOST_CELLS};
 
 /// A sheet with faults.
 pub fn broken_sheet(random: &mut Random) -> Sheet {
@@ -66,10 +67,10 @@ fn some_row(random: &mut Random, rows: &std::ops::Range<usize>) -> usize {
 
 /// Refusal 2: a bit in one of these rows at a cell at or above so many; where there is no
 /// row, or no such cell, nothing is set.
-pub fn stray_bit(random: &mut Random, rows: &mut [u32], cells: u32) {
-    if cells < 32 && !rows.is_empty() {
-        let any = random.between(cells, 31);
-        let cell = random.one_of(&[cells, any, 31]);
+pub fn stray_bit(random: &mut Random, rows: &mut [Word], cells: u32) {
+    if cells < MOST_CELLS && !rows.is_empty() {
+        let any = random.between(cells, 63);
+        let cell = random.one_of(&[cells, any, cells.max(31), cells.max(32), 63]);
         let row = some_row(random, &(0..rows.len()));
         rows[row] |= 1 << cell;
     }
@@ -89,8 +90,8 @@ fn earlier_sum(random: &mut Random, sheet: &mut Sheet, rows: std::ops::Range<usi
         let row = some_row(random, &rows);
         let earlier = &sheet.rows[rows.start..row];
         let chosen = match random.below(3) {
-            0 => 1u32 << random.below(32),
-            _ => random.word(32),
+            0 => 1 << random.below(64),
+            _ => random.word(64),
         };
         sheet.rows[row] = sum_of(earlier, chosen);
     }
@@ -111,17 +112,20 @@ fn add_g1_row(random: &mut Random, sheet: &mut Sheet) {
 /// Refusal 1 mostly: n, k, l or the number of rows, which are right ones, not as asked.
 pub fn break_numbers(random: &mut Random, sheet: &mut Sheet) {
     match random.below(14) {
-        0 => sheet.n = random.one_of(&[0, 33, 64, 1 << 31, u32::MAX]),
+        0 => sheet.n = random.one_of(&[0, 33, 65, 128, 1 << 31, u32::MAX]),
         1 => sheet.n = sheet.n.wrapping_add(random.one_of(&[1, u32::MAX])),
-        2 => sheet.k = random.one_of(&[0, 33, 1 << 31, u32::MAX, u32::MAX - 6]),
-        3 => sheet.l = random.one_of(&[33, 1 << 31, u32::MAX, u32::MAX - sheet.k]),
+        2 => sheet.k = random.one_of(&[0, 65, 1 << 31, u32::MAX, u32::MAX - 6]),
+        3 => sheet.l = random.one_of(&[65, 1 << 31, u32::MAX, u32::MAX - sheet.k]),
         4 => sheet.l = sheet.n - sheet.k + random.between(1, 3),
         5 => sheet.l = (u32::MAX - sheet.k) + random.between(1, sheet.n.min(sheet.k)),
         6 => wrapped_k(random, sheet),
         7 => sheet.rows.truncate(sheet.rows.len() - 1),
         8 => sheet.rows.push(random.word(sheet.n)),
         9 => sheet.rows.clear(),
-        10 => sheet.rows.resize(64, random.word(sheet.n)),
+        10 => {
+            let count = random.one_of(&[64, 128]);
+            sheet.rows.resize(count, random.word(sheet.n));
+        }
         11 => one_cell_fewer(random, sheet),
         12 => wide(random, sheet),
         _ => k_for_l(random, sheet),
@@ -143,12 +147,16 @@ fn one_cell_fewer(random: &mut Random, sheet: &mut Sheet) {
     sheet.rows.remove(row);
 }
 
-/// More than 32 cells, with the number of rows that n + k asks for.
+/// More than 64 cells, every second time 65, with the number of rows that n + k asks for.
 fn wide(random: &mut Random, sheet: &mut Sheet) {
-    sheet.n = random.between(33, 40);
-    sheet.k = random.between(1, 64 - sheet.n);
+    let any = random.between(66, 72);
+    sheet.n = random.one_of(&[65, any]);
+    if random.once_in(2) {
+        sheet.k = random.between(1, sheet.n);
+        sheet.l = random.between(0, sheet.n - sheet.k);
+    }
     let count = (sheet.n + sheet.k) as usize;
-    sheet.rows.resize(count, random.word(32));
+    sheet.rows.resize(count, random.word(64));
 }
 
 /// One row of k handed to l or the other way, the rows made to match in number.

@@ -2,10 +2,9 @@
 //! the printed radius by request 3.
 
 use crate::listing::listed;
-use crate::sheet::{
-    above, admit, bare, is_codeword, message_of, placed, product, sum_of, Parts, Refusal, Sheet,
-};
+use crate::sheet::{admit, bare, is_codeword, message_of, placed, Parts, Refusal, Sheet};
 use crate::sums::{equation, smallest_d};
+use crate::word::{above, column, product, sum_of, Wide, Word};
 
 /// Up to this l every d is tried from 0 up; above it the equations are eliminated.
 const EVERY_D_UP_TO_L: usize = 20;
@@ -15,8 +14,8 @@ const EVERY_D_UP_TO_L: usize = 20;
 #[derive(Clone, Copy, Debug, PartialEq, Eq)]
 pub enum Answer {
     Admitted,
-    Word { word: u32, d: u32 },
-    Message { message: u32, z: u32, tried: u32 },
+    Word { word: Word, d: Word },
+    Message { message: Word, z: Word, tried: u64 },
     D0(Measured),
     D1 { measured: Measured, radius: u32 },
     Done,
@@ -26,7 +25,7 @@ pub enum Answer {
 #[derive(Clone, Copy, Debug, PartialEq, Eq)]
 pub struct Measured {
     pub distance: Option<u32>,
-    pub tried: u32,
+    pub tried: u64,
 }
 
 /// Admits the sheet or gives refusal 1 to 6.
@@ -36,9 +35,9 @@ pub fn admitting(sheet: &Sheet) -> Result<Answer, Refusal> {
 
 /// Writing: "the fitting word of message w whose d is the smallest number, and that d";
 /// refusals 7, 8 and 9 after those of the sheet.
-pub fn write(sheet: &Sheet, message: u32, stuck: u32, levels: u32) -> Result<Answer, Refusal> {
+pub fn write(sheet: &Sheet, message: Word, stuck: Word, levels: Word) -> Result<Answer, Refusal> {
     let parts = admit(sheet)?;
-    if u64::from(message) >= 1 << parts.g1.len() {
+    if Wide::from(message) >= 1 << parts.g1.len() {
         return Err(bare(7));
     }
     let wrong = ((stuck | levels) & above(parts.n)) | (levels & !stuck);
@@ -57,28 +56,24 @@ pub fn write(sheet: &Sheet, message: u32, stuck: u32, levels: u32) -> Result<Ans
 }
 
 /// The first d from 0 up whose word fits: it "equals the level at every stuck cell".
-fn first_fitting_d(parts: &Parts, plain: u32, stuck: u32, levels: u32) -> Option<u32> {
-    let fits = |d: &u32| (plain ^ sum_of(parts.g0, *d)) & stuck == levels;
-    (0..1u32 << parts.g0.len()).find(fits)
+fn first_fitting_d(parts: &Parts, plain: Word, stuck: Word, levels: Word) -> Option<Word> {
+    let fits = |d: &Word| (plain ^ sum_of(parts.g0, *d)) & stuck == levels;
+    (0..1 << parts.g0.len()).find(fits)
 }
 
 /// The same d from one equation for each stuck cell: the rows of G0 chosen by d must
 /// turn the plain word's level into the stuck one.
-fn eliminated_d(parts: &Parts, plain: u32, stuck: u32, levels: u32) -> Option<u32> {
+fn eliminated_d(parts: &Parts, plain: Word, stuck: Word, levels: Word) -> Option<Word> {
     let stuck_cells = (0..parts.n).filter(|cell| stuck >> cell & 1 == 1);
-    let equations: Vec<u64> = stuck_cells
-        .map(|cell| {
-            let rows = parts.g0.iter().enumerate();
-            let column = rows.fold(0, |bits, (j, row)| bits | (row >> cell & 1) << j);
-            equation(column, (plain ^ levels) >> cell & 1 == 1)
-        })
+    let equations: Vec<Wide> = stuck_cells
+        .map(|cell| equation(column(parts.g0, cell), (plain ^ levels) >> cell & 1 == 1))
         .collect();
     smallest_d(parts.g0.len(), &equations)
 }
 
 /// Reading: the first z in the list, of weight at most the radius, for which y + z is a
 /// codeword; refusals 10, 11 and 12 after those of the sheet.
-pub fn read(sheet: &Sheet, y: u32, radius: u32) -> Result<Answer, Refusal> {
+pub fn read(sheet: &Sheet, y: Word, radius: u32) -> Result<Answer, Refusal> {
     let parts = admit(sheet)?;
     let stray = y & above(parts.n);
     if stray != 0 {
@@ -95,7 +90,8 @@ pub fn read(sheet: &Sheet, y: u32, radius: u32) -> Result<Answer, Refusal> {
             return Ok(Answer::Message { message, z, tried });
         }
     }
-    Err(placed(12, tried))
+    let all = u32::try_from(tried).expect("words of weight up to 4");
+    Err(placed(12, all))
 }
 
 /// d0: "the least weight of a nonzero word whose product with every row of G0 is 0".
@@ -124,7 +120,7 @@ pub fn d1(sheet: &Sheet, cap: u32) -> Result<Answer, Refusal> {
 
 /// "A measurement takes a cap of 1 to 8 and tries listed words from weight 1 up to the
 /// cap": refusal 11, the first hit and its place, or the length of the list.
-fn measure(parts: &Parts, cap: u32, hit: impl Fn(u32) -> bool) -> Result<Measured, Refusal> {
+fn measure(parts: &Parts, cap: u32, hit: impl Fn(Word) -> bool) -> Result<Measured, Refusal> {
     if !(1..=8).contains(&cap) {
         return Err(bare(11));
     }

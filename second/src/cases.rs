@@ -8,6 +8,8 @@ use crate::noise::noise_line;
 use crate::paging::page_call;
 use crate::random::Random;
 use crate::tabling::table_call;
+use crate::taming::highest_cap;
+use crate::word::Word;
 use std::io::{self, Write};
 
 /// One call in so many is a measurement that may go through millions of words.
@@ -60,17 +62,21 @@ fn case_line(random: &mut Random) -> Vec<u8> {
     }
 }
 
-/// A measurement of a far distance on 26 to 32 cells, at a cap of 6 to 8.
+/// A measurement of a far distance on 26 to 64 cells, at a cap of at most 8 and as high as
+/// the longest list allows, or up to 2 lower.
 fn big_measurement(random: &mut Random) -> String {
     let verb = random.one_of(&[Verb::D0, Verb::D1]);
-    let n = random.between(26, 32);
+    let (narrow, wide) = (random.between(26, 32), random.between(33, 64));
+    let n = random.one_of(&[narrow, wide]);
     let sheet = far_sheet(random, verb, n);
-    call_text(verb, &sheet, &[random.between(6, 8)])
+    let cap = highest_cap(n) - random.between(0, 2);
+    call_text(verb, &sheet, &[Word::from(cap)])
 }
 
 #[cfg(test)]
 mod tests {
     use super::*;
+    use crate::lines::answer_line;
 
     /// Equal seeds give equal lines, other seeds others, and as many as asked for.
     #[test]
@@ -84,5 +90,25 @@ mod tests {
         assert_ne!(cases(1), cases(2));
         let newlines = cases(1).iter().filter(|byte| **byte == b'\n').count();
         assert_eq!(newlines, 500);
+    }
+
+    /// No call goes through a list that is longer than any may be, and few go through one
+    /// that is longer than the rule has it.
+    #[test]
+    fn lists_gone_through() {
+        let mut output = Vec::new();
+        print_cases(3, 4_000, &mut output).expect("cases");
+        let lines = output.split(|byte| *byte == b'\n');
+        let length = |line: &[u8]| -> Option<u64> {
+            let answer = answer_line(line)?;
+            let (_, after) = answer
+                .rsplit_once("tried ")
+                .or(answer.split_once("refused 12 "))?;
+            after.split(' ').next()?.parse().ok()
+        };
+        let lengths: Vec<u64> = lines.filter_map(length).collect();
+        let longer = |limit: u64| lengths.iter().filter(|length| **length > limit).count();
+        assert!(lengths.len() > 800 && longer(20_000_000) == 0);
+        assert!(longer(700_000) <= 4 && (1..30).contains(&longer(50_000)));
     }
 }

@@ -2,30 +2,31 @@
 //! all tables with given n, k and l.
 
 use crate::sheet::{Sheet, Tables};
+use crate::word::Word;
 
 /// Every list with one number below each of these limits, in their order.
-pub fn every_list(limits: Vec<u32>) -> impl Iterator<Item = Vec<u32>> {
-    let count: u64 = limits.iter().map(|limit| u64::from(*limit)).product();
+pub fn every_list(limits: Vec<Word>) -> impl Iterator<Item = Vec<Word>> {
+    let count: Word = limits.iter().product();
     (0..count).map(move |number| {
         let mut rest = number;
-        let digit = |limit: &u32| {
-            let digit = rest % u64::from(*limit);
-            rest /= u64::from(*limit);
-            digit as u32
+        let digit = |limit: &Word| {
+            let digit = rest % limit;
+            rest /= limit;
+            digit
         };
         limits.iter().map(digit).collect()
     })
 }
 
 /// Every sheet with these numbers whose n + k rows are all below the limit.
-pub fn every_sheet(n: u32, k: u32, l: u32, limit: u32) -> impl Iterator<Item = Sheet> {
+pub fn every_sheet(n: u32, k: u32, l: u32, limit: Word) -> impl Iterator<Item = Sheet> {
     let lists = every_list(vec![limit; (n + k) as usize]);
     lists.map(move |rows| Sheet { n, k, l, rows })
 }
 
 /// All P, R and Q with as many rows as these numbers ask for, every row being below 2 to
 /// the number of its columns, or so much past it.
-pub fn every_tables(n: u32, k: u32, l: u32, past: u32) -> impl Iterator<Item = Tables> {
+pub fn every_tables(n: u32, k: u32, l: u32, past: Word) -> impl Iterator<Item = Tables> {
     let r = n - k - l;
     let limits = [(k, r), (l, k), (l, r)].map(|(rows, columns)| {
         let limit = (1 << columns) + past;
@@ -35,7 +36,7 @@ pub fn every_tables(n: u32, k: u32, l: u32, past: u32) -> impl Iterator<Item = T
     every_list(limits.concat()).map(move |rows| {
         let (p, rest) = rows.split_at(k);
         let (big_r, q) = rest.split_at(l);
-        [p, big_r, q].map(<[u32]>::to_vec)
+        [p, big_r, q].map(<[Word]>::to_vec)
     })
 }
 
@@ -47,7 +48,7 @@ mod tests {
     /// Lists below small limits, in their order; the empty one is a list too.
     #[test]
     fn lists_below_limits() {
-        let lists = |limits: &[u32]| every_list(limits.to_vec()).collect::<Vec<_>>();
+        let lists = |limits: &[Word]| every_list(limits.to_vec()).collect::<Vec<_>>();
         assert_eq!(lists(&[2, 1]), [[0, 0], [1, 0]]);
         assert_eq!(lists(&[2, 2]), [[0, 0], [1, 0], [0, 1], [1, 1]]);
         assert_eq!(lists(&[]), [[0; 0]]);

@@ -4,6 +4,7 @@ use crate::calls::{admitting, d0, d1, read, write, Answer, Measured};
 use crate::page::{page_read, page_write, Record};
 use crate::sheet::{Refusal, Sheet};
 use crate::tables::{to_sheet, to_tables};
+use crate::word::Word;
 use std::io::{self, BufRead, Write};
 
 /// The room of the console for a line, its end not counted: a longer line is no call.
@@ -55,7 +56,7 @@ pub fn answer_line(line: &[u8]) -> Option<String> {
 fn answer_call(line: &[u8]) -> Option<String> {
     let mut tokens = line.split(|byte| *byte == b' ');
     let verb = tokens.next()?;
-    let numbers: Vec<u32> = tokens.map(number).collect::<Option<_>>()?;
+    let numbers: Vec<Word> = tokens.map(number).collect::<Option<_>>()?;
     if verb == b"tosheet" {
         return making_a_sheet(&numbers);
     }
@@ -63,59 +64,59 @@ fn answer_call(line: &[u8]) -> Option<String> {
     let result = match (verb, rest) {
         (b"admit", []) => admitting(&sheet),
         (b"write", [message, stuck, levels]) => write(&sheet, *message, *stuck, *levels),
-        (b"read", [y, radius]) => read(&sheet, *y, *radius),
-        (b"d0", [cap]) => d0(&sheet, *cap),
-        (b"d1", [cap]) => d1(&sheet, *cap),
-        (b"pread", [_, rest @ ..]) => page_reading(&sheet, rest)?,
-        (b"pwrite", [_, rest @ ..]) => return page_writing(&sheet, rest),
+        (b"read", [y, radius]) => read(&sheet, *y, narrow(*radius)?),
+        (b"d0", [cap]) => d0(&sheet, narrow(*cap)?),
+        (b"d1", [cap]) => d1(&sheet, narrow(*cap)?),
+        (b"pread", rest) => page_reading(&sheet, rest)?,
+        (b"pwrite", rest) => return page_writing(&sheet, rest),
         (b"totables", rest) => return giving_tables(&sheet, rest),
         _ => return None,
     };
     Some(result_text(result))
 }
 
-/// `pread` after the sheet and the number: the page, slot and radius.
-fn page_reading(sheet: &Sheet, numbers: &[u32]) -> Option<Result<Answer, Refusal>> {
-    let (page, rest) = list_and_rest(numbers)?;
+/// `pread` after the sheet: the number, which is not looked at, the page, slot and radius.
+fn page_reading(sheet: &Sheet, numbers: &[Word]) -> Option<Result<Answer, Refusal>> {
+    let (_, rest) = narrow_and_rest(numbers)?;
+    let (page, rest) = list_and_rest(rest)?;
     let [slot, radius] = rest else {
         return None;
     };
-    Some(page_read(sheet, page, *slot, *radius))
+    Some(page_read(sheet, page, narrow(*slot)?, narrow(*radius)?))
 }
 
-/// `pwrite` after the sheet and the number: the page, the records, slot and message. Its
-/// answer, also a refusal, ends with the page as it is after the call.
-fn page_writing(sheet: &Sheet, numbers: &[u32]) -> Option<String> {
-    let (page, rest) = list_and_rest(numbers)?;
+/// `pwrite` after the sheet: the number, which is not looked at, the page, the records, slot
+/// and message. Its answer, also a refusal, ends with the page as it is after the call.
+fn page_writing(sheet: &Sheet, numbers: &[Word]) -> Option<String> {
+    let (_, rest) = narrow_and_rest(numbers)?;
+    let (page, rest) = list_and_rest(rest)?;
     let (records, rest) = records_and_rest(rest)?;
     let [slot, message] = rest else {
         return None;
     };
     let mut page = page.to_vec();
-    let result = page_write(sheet, &mut page, &records, *slot, *message);
+    let result = page_write(sheet, &mut page, &records, narrow(*slot)?, *message);
     Some(lent_text(result, ["page"], &[page]))
 }
 
 /// `tosheet`: n, k and l, the tables P, R and Q, and the room for the sheet. Its answer,
 /// also a refusal, ends with what the room holds after the call.
-fn making_a_sheet(numbers: &[u32]) -> Option<String> {
-    let [n, k, l, rest @ ..] = numbers else {
-        return None;
-    };
+fn making_a_sheet(numbers: &[Word]) -> Option<String> {
+    let (nkl, rest) = nkl_and_rest(numbers)?;
     let (p, rest) = list_and_rest(rest)?;
     let (r, rest) = list_and_rest(rest)?;
     let (q, rest) = list_and_rest(rest)?;
     let (mut room, []) = room_and_rest(rest)? else {
         return None;
     };
-    let tables = [p, r, q].map(<[u32]>::to_vec);
-    let result = to_sheet([*n, *k, *l], &tables, &mut room);
+    let tables = [p, r, q].map(<[Word]>::to_vec);
+    let result = to_sheet(nkl, &tables, &mut room);
     Some(lent_text(result, ["room"], &[room]))
 }
 
 /// `totables` after the sheet: the rooms for P, R and Q. Its answer, also a refusal, ends
 /// with what the rooms hold after the call.
-fn giving_tables(sheet: &Sheet, numbers: &[u32]) -> Option<String> {
+fn giving_tables(sheet: &Sheet, numbers: &[Word]) -> Option<String> {
     let (p, rest) = room_and_rest(numbers)?;
     let (r, rest) = room_and_rest(rest)?;
     let (q, []) = room_and_rest(rest)? else {
@@ -126,56 +127,68 @@ fn giving_tables(sheet: &Sheet, numbers: &[u32]) -> Option<String> {
     Some(lent_text(result, ["P", "R", "Q"], &rooms))
 }
 
-/// A number token: one or more decimal digits whose value 32 bits can hold.
-fn number(token: &[u8]) -> Option<u32> {
+/// A number token: one or more decimal digits whose value a word can hold.
+fn number(token: &[u8]) -> Option<Word> {
     if token.is_empty() {
         return None;
     }
-    let mut value: u32 = 0;
+    let mut value: Word = 0;
     for byte in token {
         if !byte.is_ascii_digit() {
             return None;
         }
-        let digit = u32::from(byte - b'0');
+        let digit = Word::from(byte - b'0');
         value = value.checked_mul(10)?.checked_add(digit)?;
     }
     Some(value)
 }
 
-/// LIST: a count and so many numbers, then the numbers that are left.
-fn list_and_rest(numbers: &[u32]) -> Option<(&[u32], &[u32])> {
-    let (count, after) = numbers.split_first()?;
-    let count = *count as usize;
+/// A number that is no word: its place holds 32 bits, and more make the line no call.
+fn narrow(number: Word) -> Option<u32> {
+    u32::try_from(number).ok()
+}
+
+/// A number that is no word, then the numbers that are left.
+fn narrow_and_rest(numbers: &[Word]) -> Option<(u32, &[Word])> {
+    let (first, rest) = numbers.split_first()?;
+    Some((narrow(*first)?, rest))
+}
+
+/// n, k and l, then the numbers that are left.
+fn nkl_and_rest(numbers: &[Word]) -> Option<([u32; 3], &[Word])> {
+    let (n, rest) = narrow_and_rest(numbers)?;
+    let (k, rest) = narrow_and_rest(rest)?;
+    let (l, rest) = narrow_and_rest(rest)?;
+    Some(([n, k, l], rest))
+}
+
+/// LIST: a count and so many words, then the numbers that are left.
+fn list_and_rest(numbers: &[Word]) -> Option<(&[Word], &[Word])> {
+    let (count, after) = narrow_and_rest(numbers)?;
+    let count = count as usize;
     (count <= after.len()).then(|| after.split_at(count))
 }
 
 /// SHEET: n k l and a LIST of rows, then the numbers that are left for the call.
-fn sheet_and_rest(numbers: &[u32]) -> Option<(Sheet, &[u32])> {
-    let [n, k, l, after @ ..] = numbers else {
-        return None;
-    };
+fn sheet_and_rest(numbers: &[Word]) -> Option<(Sheet, &[Word])> {
+    let ([n, k, l], after) = nkl_and_rest(numbers)?;
     let (rows, rest) = list_and_rest(after)?;
-    let sheet = Sheet {
-        n: *n,
-        k: *k,
-        l: *l,
-        rows: rows.to_vec(),
-    };
-    Some((sheet, rest))
+    let rows = rows.to_vec();
+    Some((Sheet { n, k, l, rows }, rest))
 }
 
 /// RECS: a count and so many times slot, cell and level, then the numbers that are left.
 /// A level that 8 bits cannot hold makes the line no call.
-fn records_and_rest(numbers: &[u32]) -> Option<(Vec<Record>, &[u32])> {
-    let (count, mut rest) = numbers.split_first()?;
+fn records_and_rest(numbers: &[Word]) -> Option<(Vec<Record>, &[Word])> {
+    let (count, mut rest) = narrow_and_rest(numbers)?;
     let mut records = Vec::new();
-    for _ in 0..*count {
+    for _ in 0..count {
         let [slot, cell, level, after @ ..] = rest else {
             return None;
         };
         records.push(Record {
-            slot: *slot,
-            cell: *cell,
+            slot: narrow(*slot)?,
+            cell: narrow(*cell)?,
             level: u8::try_from(*level).ok()?,
         });
         rest = after;
@@ -185,19 +198,18 @@ fn records_and_rest(numbers: &[u32]) -> Option<(Vec<Record>, &[u32])> {
 
 /// ROOM: a size and a fill, as lent memory of so many entries, each with this fill; then
 /// the numbers that are left. A size that its place cannot hold makes the line no call.
-fn room_and_rest(numbers: &[u32]) -> Option<(Vec<u32>, &[u32])> {
-    let [size, fill, rest @ ..] = numbers else {
-        return None;
-    };
-    let room = || vec![*fill; *size as usize];
-    (*size <= MOST_OF_A_ROOM).then(|| (room(), rest))
+fn room_and_rest(numbers: &[Word]) -> Option<(Vec<Word>, &[Word])> {
+    let (size, rest) = narrow_and_rest(numbers)?;
+    let (fill, rest) = rest.split_first()?;
+    let room = || vec![*fill; size as usize];
+    (size <= MOST_OF_A_ROOM).then(|| (room(), rest))
 }
 
 /// An answer or a refusal, and after it each list of lent memory behind its name.
 fn lent_text<const N: usize>(
     result: Result<Answer, Refusal>,
     names: [&str; N],
-    lists: &[Vec<u32>; N],
+    lists: &[Vec<Word>; N],
 ) -> String {
     let mut text = result_text(result);
     for (name, list) in names.iter().zip(lists) {
@@ -215,9 +227,9 @@ fn result_text(result: Result<Answer, Refusal>) -> String {
 }
 
 /// LIST, of a page or a room.
-fn list_text(numbers: &[u32]) -> String {
-    let tokens = std::iter::once(numbers.len().to_string())
-        .chain(numbers.iter().map(u32::to_string))
+fn list_text(words: &[Word]) -> String {
+    let tokens = std::iter::once(words.len().to_string())
+        .chain(words.iter().map(Word::to_string))
         .collect::<Vec<String>>();
     tokens.join(" ")
 }

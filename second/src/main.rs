@@ -1,11 +1,12 @@
 //! The second program: it answers the calls of the name store on its own, straight from
-//! the definitions of document 01 and requests 1, 3 and 4, and makes cases on which the
+//! the definitions of document 01 and requests 1, 3, 4 and 5, and makes cases on which the
 //! two are compared.
 
 mod asking;
 mod breaking;
 mod calls;
 mod cases;
+mod edges;
 mod every;
 mod lines;
 mod listing;
@@ -21,7 +22,9 @@ mod smalltables;
 mod sums;
 mod tables;
 mod tabling;
+mod taming;
 mod tokens;
+mod word;
 
 use std::io::{self, BufReader, BufWriter};
 use std::process::ExitCode;

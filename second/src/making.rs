@@ -4,14 +4,15 @@
 //! H = [P^T (Q + RP)^T I], which meets every rule; steps that keep the rules mix it.
 
 use crate::random::Random;
-use crate::sheet::{sum_of, Sheet, Tables};
+use crate::sheet::{Sheet, Tables};
+use crate::word::{column, sum_of, Word, MOST_CELLS};
 
 /// The four groups of rows of a sheet in the making.
 struct Groups {
-    g1: Vec<u32>,
-    g0: Vec<u32>,
-    h: Vec<u32>,
-    m: Vec<u32>,
+    g1: Vec<Word>,
+    g0: Vec<Word>,
+    h: Vec<Word>,
+    m: Vec<Word>,
 }
 
 /// A step that keeps a sheet admitted.
@@ -38,11 +39,12 @@ pub fn near_sheet(random: &mut Random) -> Sheet {
     stepped(random, [n, k, l], steps, mix)
 }
 
-/// The kitchen sheet or the attic sheet now and then, else a random admitted one.
+/// A bench sheet now and then, else a random admitted one.
 pub fn some_sheet(random: &mut Random) -> Sheet {
-    match random.below(20) {
-        0 => kitchen(),
-        1 => attic(),
+    match random.below(40) {
+        0 | 1 => kitchen(),
+        2 => attic(),
+        3 => tower(),
         _ => random_sheet(random),
     }
 }
@@ -61,14 +63,27 @@ pub fn attic() -> Sheet {
     Sheet { n, k, l, rows }
 }
 
-/// n from 1 to 32, k from 1, and l with k + l at most n; l = 0, r = 0, small k and the
-/// widest sheets come more often than the others.
+/// The tower sheet: 64 cells, 62 bits of a message, and all ones as the row of G0 and of H.
+pub fn tower() -> Sheet {
+    let (n, k, l) = (64, 62, 1);
+    let units_and = |cell: u32| (0..k).map(move |i| 1 << i | 1 << cell);
+    let ones = [Word::MAX; 2];
+    let rows = units_and(63).chain(ones).chain(units_and(62)).collect();
+    Sheet { n, k, l, rows }
+}
+
+/// n from 1 to 64, every second time at most 32, k from 1, and l with k + l at most n;
+/// l = 0, r = 0, small k and the widest sheets come more often than the others.
 pub fn random_numbers(random: &mut Random) -> (u32, u32, u32) {
-    let n = match random.below(8) {
+    let n = match random.below(16) {
         0 => random.between(31, 32),
         1 => random.between(1, 4),
         2 | 3 => random.between(5, 16),
-        _ => random.between(1, 32),
+        4..=7 => random.between(1, 32),
+        8 => random.between(33, 34),
+        9 => random.between(63, 64),
+        10 => MOST_CELLS,
+        _ => random.between(33, 64),
     };
     let k = match random.below(8) {
         0..=3 => random.between(1, n.min(4)),
@@ -116,25 +131,25 @@ pub fn random_tables(random: &mut Random, n: u32, k: u32, l: u32) -> Tables {
 fn systematic(n: u32, k: u32, l: u32, tables: &Tables) -> Groups {
     let [p, big_r, q] = tables;
     let r = n - k - l;
-    let unit = |cell: usize| 1u32 << cell;
+    let unit = |cell: usize| 1 << cell;
     let (k, l) = (k as usize, l as usize);
-    let s: Vec<u32> = (0..l).map(|j| q[j] ^ sum_of(p, big_r[j])).collect();
+    let s: Vec<Word> = (0..l).map(|j| q[j] ^ sum_of(p, big_r[j])).collect();
     Groups {
         g1: (0..k).map(|i| unit(i) | shifted(p[i], k + l)).collect(),
         g0: (0..l)
             .map(|j| big_r[j] | unit(k + j) | shifted(q[j], k + l))
             .collect(),
         h: (0..r as usize)
-            .map(|c| column(p, c) | shifted(column(&s, c), k) | unit(k + l + c))
+            .map(|c| column(p, c as u32) | shifted(column(&s, c as u32), k) | unit(k + l + c))
             .collect(),
         m: (0..k)
-            .map(|i| unit(i) | shifted(column(big_r, i), k))
+            .map(|i| unit(i) | shifted(column(big_r, i as u32), k))
             .collect(),
     }
 }
 
 /// Random rows over some columns: dense, thin or all 0.
-fn table(random: &mut Random, rows: u32, columns: u32) -> Vec<u32> {
+fn table(random: &mut Random, rows: u32, columns: u32) -> Vec<Word> {
     let kind = random.below(8);
     let row = |_| match kind {
         0 => 0,
@@ -144,15 +159,9 @@ fn table(random: &mut Random, rows: u32, columns: u32) -> Vec<u32> {
     (0..rows).map(row).collect()
 }
 
-/// The word moved up by so many cells; 32 cells up nothing of it is left.
-fn shifted(word: u32, cells: usize) -> u32 {
-    (u64::from(word) << cells) as u32
-}
-
-/// Column c of some rows, as a word with bit j for row j.
-fn column(rows: &[u32], c: usize) -> u32 {
-    let bits = rows.iter().enumerate();
-    bits.fold(0, |word, (j, row)| word | (row >> c & 1) << j)
+/// The word moved up by so many cells; 64 cells up nothing of it is left.
+fn shifted(word: Word, cells: usize) -> Word {
+    word.checked_shl(cells as u32).unwrap_or(0)
 }
 
 /// One step that keeps a sheet admitted: a change of basis of G1 with M kept dual to
@@ -182,7 +191,7 @@ fn mix_checks(random: &mut Random, groups: &mut Groups) {
 }
 
 /// Adds a row to another row of the same group, and tells which (a) to which (b).
-fn add_one_to_another(random: &mut Random, rows: &mut [u32]) -> Option<(usize, usize)> {
+fn add_one_to_another(random: &mut Random, rows: &mut [Word]) -> Option<(usize, usize)> {
     if rows.len() < 2 {
         return None;
     }
@@ -193,7 +202,7 @@ fn add_one_to_another(random: &mut Random, rows: &mut [u32]) -> Option<(usize, u
 }
 
 /// Adds some row of one group to some row of another.
-fn add_from(random: &mut Random, to: &mut [u32], from: &[u32]) {
+fn add_from(random: &mut Random, to: &mut [Word], from: &[Word]) {
     if !from.is_empty() {
         let at = random.below(to.len() as u64) as usize;
         to[at] ^= random.one_of(from);
@@ -201,7 +210,7 @@ fn add_from(random: &mut Random, to: &mut [u32], from: &[u32]) {
 }
 
 /// Puts the cells of all rows in one other order.
-fn permute_cells(random: &mut Random, n: u32, rows: &mut [u32]) {
+fn permute_cells(random: &mut Random, n: u32, rows: &mut [Word]) {
     let mut places: Vec<u32> = (0..n).collect();
     for i in (1..n as usize).rev() {
         places.swap(i, random.below(i as u64 + 1) as usize);
@@ -218,22 +227,27 @@ mod tests {
     use crate::sheet::{admit, bare};
     use crate::tables::{to_sheet, to_tables};
 
-    /// Every sheet made is admitted, and every n, l = 0, r = 0 and k = 32 come up.
+    /// Every sheet made is admitted, and every n, l = 0, r = 0, k = 32 and k = 64 come up;
+    /// about every second one has at most 32 cells.
     #[test]
     fn made_sheets_are_admitted() {
         let mut random = Random::new(31);
-        let mut seen = [0; 33];
-        let (mut no_l, mut no_r, mut widest) = (0, 0, 0);
+        let mut seen = [0; 65];
+        let (mut no_l, mut no_r, mut widest) = (0, 0, [0; 2]);
         for _ in 0..5000 {
             let sheet = some_sheet(&mut random);
             assert!(admit(&sheet).is_ok(), "{sheet:?}");
             seen[sheet.n as usize] += 1;
             no_l += u32::from(sheet.l == 0);
             no_r += u32::from(sheet.k + sheet.l == sheet.n);
-            widest += u32::from(sheet.k == 32);
+            widest[0] += u32::from((sheet.n, sheet.k) == (32, 32));
+            widest[1] += u32::from((sheet.n, sheet.k) == (64, 64));
         }
-        assert!(seen[1..].iter().all(|times| *times > 0));
-        assert!(no_l > 0 && no_r > 0 && widest > 0);
+        assert!(seen[1..].iter().all(|times| *times > 0), "{seen:?}");
+        assert!(seen[63] > 100 && seen[64] > 400, "{seen:?}");
+        let narrow: u32 = seen[..=32].iter().sum();
+        assert!((2300..2900).contains(&narrow), "{narrow}");
+        assert!(no_l > 0 && no_r > 0 && widest[0] > 0 && widest[1] > 0);
     }
 
     /// The first form of a sheet, made from whole words, is the one that the call makes
@@ -245,7 +259,7 @@ mod tests {
             let (n, k, l) = random_numbers(&mut random);
             let tables = random_tables(&mut random, n, k, l);
             let form = systematic(n, k, l, &tables);
-            let mut room = vec![u32::MAX; (n + k) as usize];
+            let mut room = vec![Word::MAX; (n + k) as usize];
             assert!(to_sheet([n, k, l], &tables, &mut room).is_ok());
             assert_eq!(room, [form.g1, form.g0, form.h, form.m].concat());
         }

@@ -2,6 +2,7 @@
 //! very edge of what a call may be, the answer of a call.
 
 use crate::asking::{good_call, line_text, list};
+use crate::edges::edge_line;
 use crate::lines::ROOM_FOR_LINE;
 use crate::making::kitchen;
 use crate::paging::{good_page_call, good_page_write};
@@ -9,10 +10,11 @@ use crate::random::Random;
 use crate::roomnoise::room_noise;
 use crate::tabling::good_table_call;
 use crate::tokens::{after_list, joined, long_line, miscount, tokens_of};
+use crate::word::Word;
 
 /// One line of noise.
 pub fn noise_line(random: &mut Random) -> Vec<u8> {
-    match random.below(20) {
+    match random.below(24) {
         0 => silent_line(random),
         1 => wrong_verb(random),
         2..=4 => wrong_token(random),
@@ -26,6 +28,10 @@ pub fn noise_line(random: &mut Random) -> Vec<u8> {
         14 => wrong_page_count(random),
         15 => many_slots(random),
         16..=18 => room_noise(random),
+        19..=22 => {
+            let tokens = good_tokens(random);
+            edge_line(random, tokens)
+        }
         _ => garbage(random),
     }
 }
@@ -110,11 +116,11 @@ fn wrong_token(random: &mut Random) -> Vec<u8> {
         3 => format!("{token}."),
         4 => format!("0x{token}"),
         5 => format!("{token}a"),
-        6 => "4294967296".to_string(),
+        6 => "18446744073709551616".to_string(),
         7 => "4294967297".to_string(),
         8 => "9".repeat(random.between(10, 30) as usize),
         9 => format!("18446744073709551616{token}"),
-        10 => "18446744073709551617".to_string(),
+        10 => "340282366920938463463374607431768211457".to_string(),
         11 => String::new(),
         12 => format!("{}{token}", "0".repeat(random.between(1, 30) as usize)),
         _ => format!("{token}\u{663}"),
@@ -165,6 +171,7 @@ fn wrong_level(random: &mut Random) -> Vec<u8> {
         "512",
         "65536",
         "4294967295",
+        "4294967296",
         "255",
         "0255",
         "0256",
@@ -196,7 +203,7 @@ fn wrong_page_count(random: &mut Random) -> Vec<u8> {
 fn many_slots(random: &mut Random) -> Vec<u8> {
     let kind = random.below(3);
     let slots = |count: usize| [vec![0], list(&vec![0; count])].concat();
-    let records = |count: usize| [vec![0, 0, count as u32], vec![0; 3 * count]].concat();
+    let records = |count: usize| [vec![0, 0, count as Word], vec![0; 3 * count]].concat();
     let line = |count: usize| match kind {
         0 => line_text("pread", &kitchen(), &[slots(count), vec![0, 1]].concat()),
         1 => line_text(
@@ -268,15 +275,16 @@ fn padded_line(random: &mut Random) -> Vec<u8> {
 /// More rows than any sheet has, with the right count; now and then as many as the room
 /// for a line has, or more.
 fn many_rows(random: &mut Random) -> Vec<u8> {
-    let most = ((ROOM_FOR_LINE - "admit 32 32 0 65000".len()) / " 0".len()) as u64;
+    let most = ((ROOM_FOR_LINE - "admit 64 64 0 65000".len()) / " 0".len()) as u64;
+    let n = random.one_of(&[32, 64]);
     let count = match random.below(40) {
         0 => most - random.below(4),
         1 => most + 1 + random.below(4),
-        _ => 65 + random.below(400),
+        _ => 2 * n + 1 + random.below(400),
     };
     let row = if count > 1000 { 1 } else { 128 };
     let rows = (0..count).map(|_| format!(" {}", random.below(row)));
-    let line = format!("admit 32 32 0 {count}{}", rows.collect::<String>());
+    let line = format!("admit {n} {n} 0 {count}{}", rows.collect::<String>());
     line.into_bytes()
 }
 

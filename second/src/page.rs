@@ -3,6 +3,7 @@
 
 use crate::calls::{read, write, Answer};
 use crate::sheet::{admit, bare, placed, Refusal, Sheet};
+use crate::word::Word;
 
 /// "up to 256 of them": more records are refusal 13.
 const MOST_RECORDS: usize = 256;
@@ -22,10 +23,10 @@ pub struct Record {
 /// refusals 1 to 6, 13, 14, 15, 7 and 9. Refused, it leaves the page as it was.
 pub fn page_write(
     sheet: &Sheet,
-    page: &mut [u32],
+    page: &mut [Word],
     records: &[Record],
     slot: u32,
-    message: u32,
+    message: Word,
 ) -> Result<Answer, Refusal> {
     let n = admit(sheet)?.n;
     if records.len() > MOST_RECORDS || page.len() > MOST_SLOTS {
@@ -49,7 +50,7 @@ pub fn page_write(
 
 /// Reads a slot of the page: refusals 1 to 6, 13 for slots, 14, 10, 11 and 12. It sees
 /// no records.
-pub fn page_read(sheet: &Sheet, page: &[u32], slot: u32, radius: u32) -> Result<Answer, Refusal> {
+pub fn page_read(sheet: &Sheet, page: &[Word], slot: u32, radius: u32) -> Result<Answer, Refusal> {
     admit(sheet)?;
     if page.len() > MOST_SLOTS {
         return Err(bare(13));
@@ -73,12 +74,12 @@ fn breaks(n: u32, earlier: &[Record], record: Record) -> bool {
 
 /// Which cells are stuck, and their levels, cell by cell: a cell is stuck if any record
 /// names it, at the level that its first record gives.
-fn two_words(n: u32, own: &[Record]) -> (u32, u32) {
+fn two_words(n: u32, own: &[Record]) -> (Word, Word) {
     let level_of = |cell| own.iter().find(|record| record.cell == cell);
     let named = (0..n).filter_map(level_of);
     named.fold((0, 0), |(stuck, levels), record| {
         let worth = 1 << record.cell;
-        (stuck + worth, levels + worth * u32::from(record.level))
+        (stuck + worth, levels + worth * Word::from(record.level))
     })
 }
 

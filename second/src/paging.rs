@@ -2,18 +2,19 @@
 //! records, slots and other arguments.
 
 use crate::asking::{
-    cells, good_message, good_read, good_write, high_bits, line_text, list, odd_limit, odd_message,
-    some_number, word_of,
+    cells, good_message, good_read, good_write, high_bits, line_text, list, odd_message,
+    odd_radius, some_number, some_word, word_of,
 };
 use crate::making::some_sheet;
 use crate::random::Random;
 use crate::sheet::Sheet;
+use crate::word::Word;
 
 /// One page in so many, and one list of records, is about as long as may be.
 const LONG_EVERY: u64 = 250;
 
 /// A record as its three numbers: slot, cell and level.
-type Triple = [u32; 3];
+type Triple = [Word; 3];
 
 /// A page write on an admitted sheet with arguments as they should be.
 pub fn good_page_write(random: &mut Random) -> String {
@@ -52,11 +53,11 @@ fn page_read_call(random: &mut Random, sheet: &Sheet, odd: bool) -> String {
         };
     }
     let radius = match odd && random.once_in(3) {
-        true => odd_limit(random, 6),
+        true => odd_radius(random, cells(sheet)),
         false => good_radius,
     };
-    let number = vec![some_number(random)];
-    let arguments = [number, list(&page), vec![slot, radius]];
+    let number = vec![Word::from(some_number(random))];
+    let arguments = [number, list(&page), vec![Word::from(slot), radius]];
     line_text("pread", sheet, &arguments.concat())
 }
 
@@ -80,15 +81,15 @@ fn page_write_call(random: &mut Random, sheet: &Sheet, odd: bool) -> String {
         }
     }
     let records = with_others(random, own, slot, odd);
-    let number = vec![some_number(random)];
-    let count = vec![records.len() as u32];
-    let ends = vec![slot, message];
+    let number = vec![Word::from(some_number(random))];
+    let count = vec![records.len() as Word];
+    let ends = vec![Word::from(slot), message];
     let arguments = [number, list(&page), count, records.concat(), ends];
     line_text("pwrite", sheet, &arguments.concat())
 }
 
 /// A page: mostly few slots; of the odd ones some have none, or more than 2,048.
-fn some_page(random: &mut Random, sheet: &Sheet, odd: bool) -> Vec<u32> {
+fn some_page(random: &mut Random, sheet: &Sheet, odd: bool) -> Vec<Word> {
     let slots = match random.below(LONG_EVERY) {
         0 if odd => random.one_of(&[2_047, 2_048, 2_049, 2_049, 2_050, 2_304, 4_096]),
         0 => random.one_of(&[2_047, 2_048]),
@@ -101,10 +102,9 @@ fn some_page(random: &mut Random, sheet: &Sheet, odd: bool) -> Vec<u32> {
 }
 
 /// What a slot holds: mostly a word of a message, disturbed in some cells.
-fn held_word(random: &mut Random, sheet: &Sheet) -> u32 {
+fn held_word(random: &mut Random, sheet: &Sheet) -> Word {
     match random.below(10) {
-        0 => random.one_of(&[0, u32::MAX]),
-        1 => random.word(32),
+        0 | 1 => some_word(random),
         2 => random.word(cells(sheet)),
         _ => {
             let message = good_message(random, sheet);
@@ -124,17 +124,17 @@ fn some_slot(random: &mut Random, slots: u32, odd: bool) -> u32 {
     if !odd || !random.once_in(4) {
         return inside;
     }
-    let any = random.word(32);
+    let any = random.number();
     let high = inside + random.one_of(&[256, 2_048, 65_536, 1 << 31]);
     random.one_of(&[slots, slots, slots + 1, high, 2_047, 2_048, u32::MAX, any])
 }
 
 /// The records of one slot for these stuck cells and levels, in any order, some of them
 /// more than once.
-fn own_records(random: &mut Random, slot: u32, stuck: u32, levels: u32) -> Vec<Triple> {
+fn own_records(random: &mut Random, slot: u32, stuck: Word, levels: Word) -> Vec<Triple> {
     let mut records = Vec::new();
-    for cell in (0..32).filter(|cell| stuck >> cell & 1 == 1) {
-        let record = [slot, cell, levels >> cell & 1];
+    for cell in (0..64).filter(|cell| stuck >> cell & 1 == 1) {
+        let record = [Word::from(slot), cell, levels >> cell & 1];
         put_in(random, &mut records, record);
         if random.once_in(8) {
             put_in(random, &mut records, record);
@@ -152,13 +152,19 @@ fn put_in(random: &mut Random, records: &mut Vec<Triple>, record: Triple) {
 /// Refusal 15 mostly: a record for this slot with a cell at n or above, with a level
 /// other than 0 or 1, or one that disagrees with another.
 fn bad_record(random: &mut Random, n: u32, slot: u32, own: &[Triple]) -> Triple {
-    let cell = random.between(0, n - 1);
-    let level = random.between(0, 1);
-    let wide = random.between(n, 40);
+    let slot = Word::from(slot);
+    let cell = Word::from(random.between(0, n - 1));
+    let level = random.word(1);
+    let wide = random.between(n, 72);
+    let huge = random.one_of(&[wide, wide, 1 << 31, u32::MAX]);
     match random.below(8) {
-        0 => [slot, n, level],
-        1 => [slot, random.one_of(&[wide, 1 << 31, u32::MAX]), level],
-        2 => [slot, cell + random.one_of(&[32, 64, 256, 1 << 16]), level],
+        0 => [slot, Word::from(n), level],
+        1 => [slot, Word::from(huge), level],
+        2 => [
+            slot,
+            cell + random.one_of(&[32, 64, 64, 256, 1 << 16]),
+            level,
+        ],
         3 => [slot, cell, random.one_of(&[2, 2, 3, 128, 254, 255])],
         4 => [slot, random.word(32), random.word(8)],
         _ if own.is_empty() => [slot, cell, 2],
@@ -172,17 +178,17 @@ fn bad_record(random: &mut Random, n: u32, slot: u32, own: &[Triple]) -> Triple 
 /// A record for another slot, which may be a bad one, or contradict a record of this
 /// slot, or name a slot that is this one but for high bits.
 fn other_record(random: &mut Random, slot: u32, own: &[Triple]) -> Triple {
-    let any = random.word(32);
+    let any = random.number();
     let near = slot ^ 1 << random.between(0, 31);
     let other = random.one_of(&[slot ^ 1, slot ^ 1, near, near, u32::MAX, any]);
-    let other = if other == slot { slot ^ 1 } else { other };
+    let other = Word::from(if other == slot { slot ^ 1 } else { other });
     match random.below(4) {
         0 => [other, random.word(32), random.word(8)],
         1 | 2 if !own.is_empty() => {
             let [_, cell, level] = random.one_of(own);
             [other, cell, level ^ 1]
         }
-        _ => [other, random.between(0, 33), random.between(0, 2)],
+        _ => [other, random.below(67), random.below(3)],
     }
 }
 

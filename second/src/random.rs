@@ -1,5 +1,7 @@
 //! Numbers at random that are repeatable from a seed.
 
+use crate::word::{all_ones, Word};
+
 /// The splitmix64 generator.
 pub struct Random {
     state: u64,
@@ -40,13 +42,18 @@ impl Random {
         things[self.below(things.len() as u64) as usize]
     }
 
-    /// A word over so many cells, 0 to 32.
-    pub fn word(&mut self, cells: u32) -> u32 {
-        ((self.next() >> 32) & ((1 << cells) - 1)) as u32
+    /// A word over so many cells, 0 to 64.
+    pub fn word(&mut self, cells: u32) -> Word {
+        self.next() & all_ones(cells)
+    }
+
+    /// A number of 32 bits.
+    pub fn number(&mut self) -> u32 {
+        (self.next() >> 32) as u32
     }
 
     /// A word over n cells with at most so many ones.
-    pub fn light_word(&mut self, n: u32, ones: u32) -> u32 {
+    pub fn light_word(&mut self, n: u32, ones: u32) -> Word {
         (0..ones).fold(0, |word, _| word | 1 << self.between(0, n - 1))
     }
 }

@@ -7,6 +7,7 @@ use crate::making::kitchen;
 use crate::random::Random;
 use crate::tabling::{good_table_call, to_sheet_call, to_sheet_text, to_tables_text};
 use crate::tokens::{after_list, joined, long_line, miscount, tokens_of};
+use crate::word::Word;
 
 /// One line of noise about tables.
 pub fn room_noise(random: &mut Random) -> Vec<u8> {
@@ -36,8 +37,8 @@ fn wrong_size(random: &mut Random) -> Vec<u8> {
         0 | 1 => most,
         2..=4 => most + 1,
         5 => most + 2 + random.below(3 * most),
-        6 => random.one_of(&[1 << 16, 1 << 31, (1 << 32) - 1, 1 << 32]),
-        7 => (1 << 32) + tokens[at].parse::<u64>().expect("a size"),
+        6 => random.one_of(&[1 << 16, 1 << 31, (1 << 32) - 1, 1 << 32, u64::MAX]),
+        7 => random.one_of(&[1 << 32, 1 << 63]) + tokens[at].parse::<u64>().expect("a size"),
         8 => most - random.below(most),
         _ => 0,
     };
@@ -88,7 +89,7 @@ fn many_table_rows(random: &mut Random) -> Vec<u8> {
     long_line(random, usual, " 0".len(), |count| {
         let mut tables = [vec![3, 5, 6], vec![7], vec![7]];
         tables[long] = vec![0; count];
-        to_sheet_text([7, 3, 1], &tables, [10, 4])
+        to_sheet_text([7, 3, 1], &tables, 10, 4)
     })
 }
 
@@ -101,7 +102,7 @@ fn largest_rooms(random: &mut Random) -> Vec<u8> {
         0 => sizes = [size; 3],
         room => sizes[room as usize - 1] = size,
     }
-    to_tables_text(&kitchen(), sizes, [u32::MAX; 3]).into_bytes()
+    to_tables_text(&kitchen(), sizes, [Word::MAX; 3]).into_bytes()
 }
 
 #[cfg(test)]
@@ -122,7 +123,7 @@ mod tests {
             longest = longest.max(answer.len());
         }
         assert!((500..1300).contains(&unknown), "{unknown}");
-        let all = 3 * MOST_OF_A_ROOM as usize * " 4294967295".len();
+        let all = 3 * MOST_OF_A_ROOM as usize * " 18446744073709551615".len();
         assert_eq!(longest, "refused 1 P 4096 R 4096 Q 4096".len() + all);
     }
 }

@@ -1,6 +1,7 @@
 //! The sheet of document 01 and its admission: refusals 1 to 6.
 
 use crate::sums::is_sum;
+use crate::word::{above, product, Wide, Word, MOST_CELLS};
 
 /// A sheet as it is lent: three numbers and any number of rows, nothing checked yet.
 #[derive(Clone, Debug, PartialEq, Eq)]
@@ -8,12 +9,12 @@ pub struct Sheet {
     pub n: u32,
     pub k: u32,
     pub l: u32,
-    pub rows: Vec<u32>,
+    pub rows: Vec<Word>,
 }
 
 /// The three tables of request 4 as they are lent, or rooms lent for them, nothing checked
 /// yet: P (k by r), R (l by k) and Q (l by r), in this order. Bit c of a row is column c.
-pub type Tables = [Vec<u32>; 3];
+pub type Tables = [Vec<Word>; 3];
 
 /// A line of the table "When the box says no": its number and what is given with it.
 #[derive(Clone, Copy, Debug, PartialEq, Eq)]
@@ -26,10 +27,10 @@ pub struct Refusal {
 #[derive(Clone, Copy, Debug)]
 pub struct Parts<'a> {
     pub n: u32,
-    pub g1: &'a [u32],
-    pub g0: &'a [u32],
-    pub h: &'a [u32],
-    pub m: &'a [u32],
+    pub g1: &'a [Word],
+    pub g0: &'a [Word],
+    pub h: &'a [Word],
+    pub m: &'a [Word],
 }
 
 /// A refusal that is given with nothing.
@@ -48,30 +49,13 @@ pub fn placed(number: u32, place: u32) -> Refusal {
     }
 }
 
-/// "The product of two words is the parity of the cells that are 1 in both."
-pub fn product(a: u32, b: u32) -> bool {
-    (a & b).count_ones() & 1 == 1
-}
-
-/// The bits at cell n or above, which no word over n cells has.
-pub fn above(n: u32) -> u32 {
-    u32::MAX.checked_shl(n).unwrap_or(0)
-}
-
-/// The sum of those rows whose bit is 1 in `chosen`, bit j for row j; sums are modulo 2.
-pub fn sum_of(rows: &[u32], chosen: u32) -> u32 {
-    let bits = rows.iter().enumerate();
-    bits.filter(|(j, _)| chosen >> j & 1 == 1)
-        .fold(0, |sum, (_, row)| sum ^ row)
-}
-
 /// "The code is the set of n-cell words whose product with each row of H is 0."
-pub fn is_codeword(parts: &Parts, word: u32) -> bool {
+pub fn is_codeword(parts: &Parts, word: Word) -> bool {
     parts.h.iter().all(|row| !product(*row, word))
 }
 
 /// The message of a codeword: its bit i is the product with row i of M.
-pub fn message_of(parts: &Parts, word: u32) -> u32 {
+pub fn message_of(parts: &Parts, word: Word) -> Word {
     let bits = parts.m.iter().enumerate();
     bits.filter(|(_, row)| product(**row, word))
         .fold(0, |message, (i, _)| message | 1 << i)
@@ -99,11 +83,11 @@ pub fn admit(sheet: &Sheet) -> Result<Parts<'_>, Refusal> {
 /// A rule answers the first row, in sheet order, at which it breaks.
 type Rule = fn(&Parts) -> Option<usize>;
 
-/// The numbers k, l and r = n - k - l, where 1 ≤ n ≤ 32, k ≥ 1 and k + l ≤ n, the sum taken
+/// The numbers k, l and r = n - k - l, where 1 ≤ n ≤ 64, k ≥ 1 and k + l ≤ n, the sum taken
 /// as a whole number that does not wrap; none where refusal 1 is due.
 pub fn numbers(n: u32, k: u32, l: u32) -> Option<[usize; 3]> {
     let r = u64::from(n).checked_sub(u64::from(k) + u64::from(l))?;
-    let right = (1..=32).contains(&n) && k >= 1;
+    let right = (1..=MOST_CELLS).contains(&n) && k >= 1;
     right.then_some([k as usize, l as usize, r as usize])
 }
 
@@ -159,20 +143,14 @@ fn dependent_h_row(parts: &Parts) -> Option<usize> {
 }
 
 /// The first of these rows that is a sum of earlier ones, the empty sum being 0.
-fn dependent(rows: &[u32]) -> Option<usize> {
-    let wide: Vec<u64> = rows.iter().map(|row| u64::from(*row)).collect();
+fn dependent(rows: &[Word]) -> Option<usize> {
+    let wide: Vec<Wide> = rows.iter().map(|row| Wide::from(*row)).collect();
     (0..wide.len()).find(|j| is_sum(wide[*j], &wide[..*j]))
 }
 
 #[cfg(test)]
 mod tests {
     use super::*;
-
-    /// At 32 cells no bit is above; at fewer cells exactly the others are.
-    #[test]
-    fn bits_above_the_cells() {
-        assert_eq!((above(32), above(31), above(1)), (0, 1 << 31, u32::MAX - 1));
-    }
 
     /// Row 0 breaks rule 4 and row 3 breaks rule 3: rule 3 is tried on all rows first.
     #[test]
@@ -204,14 +182,15 @@ mod tests {
     #[test]
     fn numbers_at_their_limits() {
         assert_eq!(numbers(1, 1, 0), Some([1, 0, 0]));
-        assert_eq!(numbers(32, 32, 0), Some([32, 0, 0]));
-        assert_eq!(numbers(32, 1, 31), Some([1, 31, 0]));
         assert_eq!(numbers(32, 10, 12), Some([10, 12, 10]));
-        for (n, k, l) in [(0, 0, 0), (33, 1, 0), (1, 0, 0), (1, 1, 1), (32, 32, 1)] {
+        assert_eq!(numbers(33, 32, 1), Some([32, 1, 0]));
+        assert_eq!(numbers(64, 64, 0), Some([64, 0, 0]));
+        assert_eq!(numbers(64, 1, 63), Some([1, 63, 0]));
+        for (n, k, l) in [(0, 0, 0), (65, 1, 0), (1, 0, 0), (1, 1, 1), (64, 64, 1)] {
             assert_eq!(numbers(n, k, l), None);
         }
         let most = u32::MAX;
-        for (n, k, l) in [(7, most, 8), (7, 8, most), (7, most, most), (most, 1, 0)] {
+        for (n, k, l) in [(7, most, 8), (7, 8, most), (64, most, most), (most, 1, 0)] {
             assert_eq!(numbers(n, k, l), None);
         }
     }

@@ -6,6 +6,7 @@ use crate::every::{every_list, every_sheet};
 use crate::making::attic;
 use crate::sheet::{admit, Sheet};
 use crate::smalltables::{sheets_to_make, sizes_to_judge, tables_in_any_rooms, tables_to_give};
+use crate::word::Word;
 use std::io::{self, Write};
 
 /// Of the admitted sheets of 3 cells and one n, k and l, one in so many is written and read.
@@ -13,10 +14,10 @@ const WRITTEN_AND_READ: usize = 28;
 
 /// The sheets of the page calls: n, k, l and rows. The one has 2 cells and no checks, the
 /// other 3 cells and a check.
-const PAGED: [(u32, u32, u32, &[u32]); 2] = [(2, 1, 1, &[1, 3, 3]), (3, 1, 1, &[3, 6, 7, 1])];
+const PAGED: [(u32, u32, u32, &[Word]); 2] = [(2, 1, 1, &[1, 3, 3]), (3, 1, 1, &[3, 6, 7, 1])];
 
 /// What the slots of a page hold before a write: no word of either sheet.
-const HELD: [u32; 2] = [u32::MAX, 1 << 31];
+const HELD: [Word; 2] = [Word::MAX, 1 << 31];
 
 /// Prints the family: every list of rows of up to 2 cells is asked to be admitted, and for
 /// its tables; every admitted sheet of up to 3 cells is measured, and asked for its tables;
@@ -90,7 +91,7 @@ fn writes_and_reads(sheet: &Sheet) -> Vec<String> {
     }
     for y in 0..words {
         for radius in 0..=sheet.n {
-            lines.push(call_text(Verb::Read, sheet, &[y, radius]));
+            lines.push(call_text(Verb::Read, sheet, &[y, Word::from(radius)]));
         }
     }
     lines
@@ -110,7 +111,7 @@ fn page_writes(sheet: &Sheet) -> Vec<String> {
             for slot in 0..=2 {
                 for message in 0..=1 << sheet.k {
                     let page = list(&HELD[..slots]);
-                    let count = vec![records.len() as u32 / 3];
+                    let count = vec![records.len() as Word / 3];
                     let rest = [vec![0], page, count, records.clone(), vec![slot, message]];
                     lines.push(line_text("pwrite", sheet, &rest.concat()));
                 }
@@ -121,30 +122,30 @@ fn page_writes(sheet: &Sheet) -> Vec<String> {
 }
 
 /// The lists of up to 2 records, each as its numbers one after the other.
-fn record_lists(n: u32) -> Vec<Vec<u32>> {
+fn record_lists(n: u32) -> Vec<Vec<Word>> {
     let mut records = Vec::new();
     for slot in 0..=1 {
-        for cell in 0..=n {
+        for cell in 0..=Word::from(n) {
             records.extend((0..=2).map(|level| vec![slot, cell, level]));
         }
     }
     let pairs = records.iter().flat_map(|first| {
-        let with_first = |second: &Vec<u32>| [first.clone(), second.clone()].concat();
+        let with_first = |second: &Vec<Word>| [first.clone(), second.clone()].concat();
         records.iter().map(with_first)
     });
-    let pairs: Vec<Vec<u32>> = pairs.collect();
+    let pairs: Vec<Vec<Word>> = pairs.collect();
     [vec![vec![]], records, pairs].concat()
 }
 
 /// Every page of up to 2 slots whose words are at most 2^n: slots 0 to 2, radius 0 to n
 /// and 5.
 fn page_reads(sheet: &Sheet) -> Vec<String> {
-    let limit: u32 = (1 << sheet.n) + 1;
+    let limit = (1 << sheet.n) + 1;
     let mut lines = Vec::new();
     for slots in 0..=2 {
         for page in every_list(vec![limit; slots]) {
             for slot in 0..=2 {
-                for radius in (0..=sheet.n).chain([5]) {
+                for radius in (0..=Word::from(sheet.n)).chain([5]) {
                     let rest = [vec![0], list(&page), vec![slot, radius]];
                     lines.push(line_text("pread", sheet, &rest.concat()));
                 }

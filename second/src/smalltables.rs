@@ -3,9 +3,10 @@
 use crate::every::{every_list, every_tables};
 use crate::sheet::Sheet;
 use crate::tabling::{to_sheet_text, to_tables_text};
+use crate::word::Word;
 
 /// What the rooms hold before a call: no row of a small table or sheet.
-const HELD: [u32; 3] = [u32::MAX, 1 << 31, 9];
+const HELD: [Word; 3] = [Word::MAX, 1 << 31, 9];
 
 /// All tables for these numbers, their rows also one past those that their columns hold, in
 /// rooms of the right size, of one row fewer and of one more.
@@ -13,7 +14,7 @@ pub fn sheets_to_make(n: u32, k: u32, l: u32) -> Vec<String> {
     let mut lines = Vec::new();
     for tables in every_tables(n, k, l, 1) {
         for size in n + k - 1..=n + k + 1 {
-            lines.push(to_sheet_text([n, k, l], &tables, [size, HELD[0]]));
+            lines.push(to_sheet_text([n, k, l], &tables, size, HELD[0]));
         }
     }
     lines
@@ -22,12 +23,10 @@ pub fn sheets_to_make(n: u32, k: u32, l: u32) -> Vec<String> {
 /// Every n, k and l of up to 2, with tables of up to 2 rows each, and a room of n + k rows:
 /// refusal 1 but for few. The rows are 0, and no bit is stray.
 pub fn sizes_to_judge() -> Vec<String> {
-    let line = |numbers: Vec<u32>| {
-        let [n, k, l, rows @ ..] = &numbers[..] else {
-            unreachable!("six numbers");
-        };
-        let tables = [0, 1, 2].map(|table| vec![0; rows[table] as usize]);
-        to_sheet_text([*n, *k, *l], &tables, [n + k, HELD[0]])
+    let line = |numbers: Vec<Word>| {
+        let nkl = [0, 1, 2].map(|place| numbers[place] as u32);
+        let tables = [3, 4, 5].map(|place| vec![0; numbers[place] as usize]);
+        to_sheet_text(nkl, &tables, nkl[0] + nkl[1], HELD[0])
     };
     every_list(vec![3; 6]).map(line).collect()
 }
@@ -45,7 +44,7 @@ pub fn tables_in_any_rooms(sheet: &Sheet) -> Vec<String> {
     stray.rows[0] |= 1 << sheet.n;
     let asked = |sheet: &Sheet| -> Vec<String> {
         every_list(vec![3; 3])
-            .map(|sizes| to_tables_text(sheet, [sizes[0], sizes[1], sizes[2]], HELD))
+            .map(|sizes| to_tables_text(sheet, [0, 1, 2].map(|room| sizes[room] as u32), HELD))
             .collect()
     };
     [sheet, &short, &stray].map(asked).concat()

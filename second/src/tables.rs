@@ -2,14 +2,15 @@
 //! of that shape given back.
 
 use crate::calls::Answer;
-use crate::sheet::{above, admit, bare, numbers, placed, Refusal, Sheet, Tables};
+use crate::sheet::{admit, bare, numbers, placed, Refusal, Sheet, Tables};
+use crate::word::{above, Word};
 
 /// A matrix by its entries: whether there is a 1 in a row, at a column.
 type Block<'a> = &'a dyn Fn(usize, usize) -> bool;
 
 /// Makes the whole sheet with these n, k and l in the room: refusal 1 for the numbers and
 /// all sizes, then 2 for a stray bit. Refused, it leaves the room as it was.
-pub fn to_sheet(nkl: [u32; 3], tables: &Tables, room: &mut [u32]) -> Result<Answer, Refusal> {
+pub fn to_sheet(nkl: [u32; 3], tables: &Tables, room: &mut [Word]) -> Result<Answer, Refusal> {
     let [n, k, l] = nkl;
     let sizes = numbers(n, k, l).ok_or(bare(1))?;
     if lengths(tables) != wanted_lengths(sizes) || room.len() != n as usize + sizes[0] {
@@ -51,7 +52,7 @@ fn wanted_lengths([k, l, _]: [usize; 3]) -> [usize; 3] {
 /// Refusal 2: the first row with a bit at a column that its table does not have, "counted
 /// through P, then R, then Q". P and Q have r columns, R has k.
 fn stray_row([k, _, r]: [usize; 3], tables: &Tables) -> Option<usize> {
-    let strays = |(table, columns): (&Vec<u32>, usize)| -> Vec<bool> {
+    let strays = |(table, columns): (&Vec<Word>, usize)| -> Vec<bool> {
         let past = above(columns as u32);
         table.iter().map(|row| row & past != 0).collect()
     };
@@ -61,7 +62,7 @@ fn stray_row([k, _, r]: [usize; 3], tables: &Tables) -> Option<usize> {
 
 /// The sheet, entry by entry: "G1 = [I 0 P], G0 = [R I Q], M = [I R^T 0] and
 /// H = [P^T (Q + RP)^T I]", its groups of rows in the order of a sheet.
-fn built([k, l, r]: [usize; 3], tables: &Tables) -> Vec<u32> {
+fn built([k, l, r]: [usize; 3], tables: &Tables) -> Vec<Word> {
     let [p, big_r, q] = tables
         .each_ref()
         .map(|table| |row: usize, column: usize| table[row] >> column & 1 == 1);
@@ -77,7 +78,7 @@ fn built([k, l, r]: [usize; 3], tables: &Tables) -> Vec<u32> {
         (r, [&p_turned, &sum_turned, &identity]),
         (k, [&identity, &r_turned, &zero]),
     ];
-    let rows_of = |(count, blocks): (usize, [Block; 3])| -> Vec<u32> {
+    let rows_of = |(count, blocks): (usize, [Block; 3])| -> Vec<Word> {
         (0..count)
             .map(|row| row_of(row, blocks, [k, l, r]))
             .collect()
@@ -86,7 +87,7 @@ fn built([k, l, r]: [usize; 3], tables: &Tables) -> Vec<u32> {
 }
 
 /// A row of three blocks side by side, which have so many columns each.
-fn row_of(row: usize, blocks: [Block; 3], columns: [usize; 3]) -> u32 {
+fn row_of(row: usize, blocks: [Block; 3], columns: [usize; 3]) -> Word {
     let entries = blocks.iter().zip(columns).flat_map(|(block, count)| {
         let entry = move |column| block(row, column);
         (0..count).map(entry)
@@ -97,7 +98,7 @@ fn row_of(row: usize, blocks: [Block; 3], columns: [usize; 3]) -> u32 {
 
 /// The tables of a sheet with these rows, if G1 and G0 have the shape: what stands at the
 /// places of P, R and Q is cut out, and the sheet made from it has the same G1 and G0.
-fn tables_of_shape([k, l, r]: [usize; 3], rows: &[u32]) -> Option<Tables> {
+fn tables_of_shape([k, l, r]: [usize; 3], rows: &[Word]) -> Option<Tables> {
     let (g1, g0) = rows[..k + l].split_at(k);
     let tables = [cut(g1, k + l, r), cut(g0, 0, k), cut(g0, k + l, r)];
     let again = built([k, l, r], &tables);
@@ -105,9 +106,9 @@ fn tables_of_shape([k, l, r]: [usize; 3], rows: &[u32]) -> Option<Tables> {
 }
 
 /// So many columns of some rows, from this cell on.
-fn cut(rows: &[u32], from: usize, columns: usize) -> Vec<u32> {
-    let entry = |row: u32, column: usize| (row >> (from + column) & 1) << column;
-    let part = |row: &u32| (0..columns).map(|column| entry(*row, column)).sum();
+fn cut(rows: &[Word], from: usize, columns: usize) -> Vec<Word> {
+    let entry = |row: Word, column: usize| (row >> (from + column) & 1) << column;
+    let part = |row: &Word| (0..columns).map(|column| entry(*row, column)).sum();
     rows.iter().map(part).collect()
 }
 

@@ -1,14 +1,15 @@
 //! Calls about tables at random, as lines of the protocol: sheets to be made and tables to
 //! be given back, with good and odd tables, numbers, sheets and rooms.
 
-use crate::asking::{line_text, list, numbers_text, some_number};
+use crate::asking::{line_text, list, numbers_text, some_word};
 use crate::breaking::{break_numbers, broken, broken_sheet, stray_bit};
 use crate::making::{near_sheet, random_numbers, random_tables, shaped_sheet, some_sheet};
 use crate::random::Random;
 use crate::sheet::{Sheet, Tables};
+use crate::word::Word;
 
 /// Lent rooms and tables have at most so many rows here, whatever k and l are.
-const MOST_ROWS: u32 = 70;
+const MOST_ROWS: u32 = 130;
 
 /// A call about tables of any kind: `tosheet` good or odd, or `totables` on a sheet of the
 /// shape, near it, of any other or broken, in good rooms or odd ones.
@@ -41,14 +42,18 @@ pub fn good_table_call(random: &mut Random) -> String {
 }
 
 /// `tosheet` as a line: the numbers, the tables and the room, its size and fill.
-pub fn to_sheet_text(nkl: [u32; 3], tables: &Tables, room: [u32; 2]) -> String {
+pub fn to_sheet_text(nkl: [u32; 3], tables: &Tables, size: u32, fill: Word) -> String {
     let lists = tables.each_ref().map(|table| list(table)).concat();
-    numbers_text("tosheet", &[&nkl, &lists[..], &room].concat())
+    let room = [Word::from(size), fill];
+    numbers_text(
+        "tosheet",
+        &[&nkl.map(Word::from), &lists[..], &room].concat(),
+    )
 }
 
 /// `totables` as a line: the sheet, and the sizes and fills of the rooms for P, R and Q.
-pub fn to_tables_text(sheet: &Sheet, sizes: [u32; 3], fills: [u32; 3]) -> String {
-    let rooms = [0, 1, 2].map(|room| [sizes[room], fills[room]]);
+pub fn to_tables_text(sheet: &Sheet, sizes: [u32; 3], fills: [Word; 3]) -> String {
+    let rooms = [0, 1, 2].map(|room| [Word::from(sizes[room]), fills[room]]);
     line_text("totables", sheet, &rooms.concat())
 }
 
@@ -69,8 +74,13 @@ pub fn to_sheet_call(random: &mut Random, odd: bool) -> String {
             resize_some(random, &blank, &mut tables);
         }
     }
-    let room = [blank.rows.len() as u32, some_number(random)];
-    to_sheet_text([blank.n, blank.k, blank.l], &tables, room)
+    let size = blank.rows.len() as u32;
+    to_sheet_text(
+        [blank.n, blank.k, blank.l],
+        &tables,
+        size,
+        some_word(random),
+    )
 }
 
 /// One fault in the tables of a sheet with right numbers: mostly a stray bit, else a row
@@ -116,10 +126,10 @@ pub fn to_tables_call(random: &mut Random, sheet: &Sheet, odd: bool) -> String {
             sizes[room] = odd_size(random, sheet, sizes[room]);
         }
     }
-    let one = some_number(random);
+    let one = some_word(random);
     let fills = match random.once_in(2) {
         true => [one; 3],
-        false => [one, some_number(random), some_number(random)],
+        false => [one, some_word(random), some_word(random)],
     };
     to_tables_text(sheet, sizes, fills)
 }

@@ -3,6 +3,7 @@
 
 use crate::lines::ROOM_FOR_LINE;
 use crate::random::Random;
+use crate::word::Word;
 
 /// The tokens of a line.
 pub fn tokens_of(line: String) -> Vec<String> {
@@ -22,19 +23,26 @@ pub fn after_list(tokens: &[String], at: usize, each: usize) -> usize {
 }
 
 /// Puts another count, mostly a wrong one, at the place of a count; among them are counts
-/// whose threefold is a small number once it is wrapped at 32 bits.
+/// that, or whose threefold, are small numbers once they are wrapped at 32 or 64 bits.
 pub fn miscount(random: &mut Random, tokens: &mut [String], at: usize) {
-    let count: u32 = tokens[at].parse().expect("a count");
-    let wrapped = count.wrapping_add(random.one_of(&[0x5555_5556, 0xaaaa_aaab]));
-    let other = match random.below(9) {
+    let count: Word = tokens[at].parse().expect("a count");
+    let wraps = [
+        0x5555_5556,
+        0xaaaa_aaab,
+        1 << 32,
+        1 << 63,
+        0x5555_5555_5555_5556,
+        0xaaaa_aaaa_aaaa_aaab,
+    ];
+    let other = match random.below(10) {
         0 | 1 => count.saturating_sub(1),
         2 => count + 1,
         3 => count + 2,
         4 => count + 3,
         5 => 0,
-        6 => random.one_of(&[64, 65, 256, 257, 2_048, 2_049]),
-        7 => wrapped,
-        _ => u32::MAX,
+        6 => random.one_of(&[64, 65, 128, 129, 256, 257, 2_048, 2_049]),
+        7 | 8 => count + random.one_of(&wraps),
+        _ => random.one_of(&[Word::from(u32::MAX), Word::MAX]),
     };
     tokens[at] = other.to_string();
 }

@@ -6,6 +6,7 @@ use crate::asking::{far_sheet, Verb};
 use crate::every::every_sheet;
 use crate::making::{attic, kitchen, random_sheet};
 use crate::random::Random;
+use crate::word::all_ones;
 use std::collections::BTreeSet;
 
 /// Both ways to the smallest d agree, whether the levels are those of a word or not.
@@ -41,23 +42,23 @@ fn words_of_a_message_are_the_sums() {
         }
         let parts = admit(&sheet).expect("an admitted sheet");
         let w = random.word(sheet.k);
-        let is_of_w = |word: &u32| is_codeword(&parts, *word) && message_of(&parts, *word) == w;
-        let defined: Vec<u32> = (0..1u32 << sheet.n).filter(is_of_w).collect();
+        let is_of_w = |word: &Word| is_codeword(&parts, *word) && message_of(&parts, *word) == w;
+        let defined: Vec<Word> = (0..1 << sheet.n).filter(is_of_w).collect();
         let sum = |d| sum_of(parts.g1, w) ^ sum_of(parts.g0, d);
-        let mut sums: Vec<u32> = (0..1u32 << sheet.l).map(sum).collect();
+        let mut sums: Vec<Word> = (0..1 << sheet.l).map(sum).collect();
         sums.sort_unstable();
         assert_eq!(defined, sums);
     }
 }
 
 /// A message and a word that a write of it answers.
-type Written = (u32, u32);
+type Written = (Word, Word);
 
 /// Everything that can be written: each codeword comes from a write of its message with
 /// every cell stuck at its levels, and a write answers codewords of its message only.
 fn all_written(sheet: &Sheet) -> Vec<Written> {
     let parts = admit(sheet).expect("an admitted sheet");
-    let every = u32::MAX >> (32 - sheet.n);
+    let every = all_ones(sheet.n);
     let codewords = (0..=every).filter(|word| is_codeword(&parts, *word));
     let written = |levels| {
         let message = message_of(&parts, levels);
@@ -71,7 +72,7 @@ fn all_written(sheet: &Sheet) -> Vec<Written> {
 
 /// The first thing written, and the first z of these weights, for which a read at radius t
 /// of the word with the cells of z turned over does not give the message.
-fn lost(sheet: &Sheet, all: &[Written], weights: [u32; 2], t: u32) -> Option<(Written, u32)> {
+fn lost(sheet: &Sheet, all: &[Written], weights: [u32; 2], t: u32) -> Option<(Written, Word)> {
     let [first, last] = weights;
     let disturbed = |of: &Written| {
         let of = *of;
@@ -116,8 +117,7 @@ fn check_plate(sheet: &Sheet) -> u32 {
 /// The sheet with two codewords, all zeros and all ones, so that d1 is n.
 fn repeating(n: u32) -> Sheet {
     let checks = (1..n).map(|cell| 3 << (cell - 1));
-    let ones = u32::MAX >> (32 - n);
-    let rows = [ones].into_iter().chain(checks).chain([1]).collect();
+    let rows = [all_ones(n)].into_iter().chain(checks).chain([1]).collect();
     let (k, l) = (1, 0);
     Sheet { n, k, l, rows }
 }

@@ -1,10 +1,12 @@
 //! Tests of whole lines: the bench cases of document 01 as one table, those of request 3
-//! as another, page calls as a third, and lines that are no calls. Those of request 4 are
-//! in `rooms`.
+//! as another, and lines that are no calls. Those of request 1 are in `pages`, of request 4
+//! in `rooms`, and of request 5 in `towers`.
 
 use super::*;
 
+mod pages;
 mod rooms;
+mod towers;
 
 const KITCHEN: &str = "7 3 1 10 49 82 100 127 27 45 78 9 10 12";
 const ATTIC: &str = "3 1 2 4 1 3 5 7";
@@ -86,150 +88,15 @@ const PLATE: [(&str, &str, &str, &str); 9] = [
     ("read", CHIP, " 68 1", "refused 12 9"),
 ];
 
-/// Verb, sheet, arguments and answer of page calls: slots and their limits, records good
-/// and bad, the order of refusals, and numbers at their limits.
-const PAGES: [(&str, &str, &str, &str); 34] = [
-    ("pwrite", KITCHEN, " 0 1 0 0 0 5", "word 85 d 0 page 1 85"),
-    (
-        "pwrite",
-        KITCHEN,
-        " 0 3 7 8 9 1 1 0 0 1 5",
-        "word 42 d 1 page 3 7 42 9",
-    ),
-    (
-        "pwrite",
-        KITCHEN,
-        " 4294967295 1 4294967295 0 0 5",
-        "word 85 d 0 page 1 85",
-    ),
-    ("pwrite", KITCHEN, " 0 0 0 0 5", "refused 14 page 0"),
-    ("pwrite", KITCHEN, " 0 0 0 0 8", "refused 14 page 0"),
-    (
-        "pwrite",
-        KITCHEN,
-        " 0 2 4 4294967295 0 2 5",
-        "refused 14 page 2 4 4294967295",
-    ),
-    (
-        "pwrite",
-        KITCHEN,
-        " 0 1 6 0 4294967295 5",
-        "refused 14 page 1 6",
-    ),
-    (
-        "pwrite",
-        KITCHEN,
-        " 0 1 6 2 0 0 0 0 0 0 0 5",
-        "word 42 d 1 page 1 42",
-    ),
-    (
-        "pwrite",
-        KITCHEN,
-        " 0 1 0 3 0 0 1 0 0 1 0 9 0 0 5",
-        "refused 15 2 page 1 0",
-    ),
-    (
-        "pwrite",
-        KITCHEN,
-        " 0 1 6 2 0 0 0 0 0 1 0 5",
-        "refused 15 1 page 1 6",
-    ),
-    (
-        "pwrite",
-        KITCHEN,
-        " 0 1 6 1 0 0 2 0 5",
-        "refused 15 0 page 1 6",
-    ),
-    (
-        "pwrite",
-        KITCHEN,
-        " 0 1 6 1 0 0 255 0 5",
-        "refused 15 0 page 1 6",
-    ),
-    (
-        "pwrite",
-        KITCHEN,
-        " 0 1 6 1 0 0 0255 0 5",
-        "refused 15 0 page 1 6",
-    ),
-    (
-        "pwrite",
-        KITCHEN,
-        " 0 1 6 1 0 4294967295 0 0 5",
-        "refused 15 0 page 1 6",
-    ),
-    (
-        "pwrite",
-        KITCHEN,
-        " 0 1 6 2 1 4294967295 255 0 7 0 0 5",
-        "refused 15 0 page 1 6",
-    ),
-    (
-        "pwrite",
-        KITCHEN,
-        " 0 2 6 6 2 4294967295 9 9 1 9 9 0 5",
-        "word 85 d 0 page 2 85 6",
-    ),
-    (
-        "pwrite",
-        KITCHEN,
-        " 0 1 6 1 0 7 0 0 8",
-        "refused 15 0 page 1 6",
-    ),
-    ("pwrite", KITCHEN, " 0 1 6 0 0 8", "refused 7 page 1 6"),
-    (
-        "pwrite",
-        KITCHEN,
-        " 0 1 6 2 0 0 0 0 1 0 0 8",
-        "refused 7 page 1 6",
-    ),
-    (
-        "pwrite",
-        KITCHEN,
-        " 0 1 6 2 0 0 0 0 1 0 0 5",
-        "refused 9 page 1 6",
-    ),
-    (
-        "pwrite",
-        "7 3 1 10 49 82 100 126 27 45 78 9 10 12",
-        " 0 1 6 1 0 9 9 1 8",
-        "refused 3 3 page 1 6",
-    ),
-    (
-        "pwrite",
-        "7 3 1 0",
-        " 0 2 6 4294967295 0 2 8",
-        "refused 1 page 2 6 4294967295",
-    ),
-    ("pwrite", ATTIC, " 0 1 6 1 0 0 0 0 1", "word 2 d 1 page 1 2"),
-    ("pread", KITCHEN, " 0 2 0 21 1 1", "message 5 z 64 tried 8"),
-    (
-        "pread",
-        KITCHEN,
-        " 4294967295 1 85 0 0",
-        "message 5 z 0 tried 1",
-    ),
-    ("pread", KITCHEN, " 0 1 21 0 0", "refused 12 1"),
-    ("pread", KITCHEN, " 0 0 0 9", "refused 14"),
-    ("pread", KITCHEN, " 0 1 128 1 9", "refused 14"),
-    ("pread", KITCHEN, " 0 1 128 4294967295 0", "refused 14"),
-    ("pread", KITCHEN, " 0 1 128 0 9", "refused 10 7"),
-    ("pread", KITCHEN, " 0 2 4294967295 85 0 4", "refused 10 7"),
-    ("pread", KITCHEN, " 0 1 127 0 5", "refused 11"),
-    ("pread", KITCHEN, " 0 1 127 0 4294967295", "refused 11"),
-    ("pread", "7 3 1 0", " 0 1 128 1 9", "refused 1"),
-];
-
 /// The answer to a line that is given as text.
 fn answered(line: &str) -> Option<String> {
     answer_line(line.as_bytes())
 }
 
-/// Every bench case is answered as document 01 says or, of the plate, request 3, and every
-/// page call as request 1 does.
+/// Every bench case is answered as document 01 says or, of the plate, request 3.
 #[test]
 fn bench_cases() {
-    for (verb, sheet, arguments, wanted) in BENCH.into_iter().chain(PLATE).chain(PAGES) {
+    for (verb, sheet, arguments, wanted) in BENCH.into_iter().chain(PLATE) {
         let line = format!("{verb} {sheet}{arguments}");
         assert_eq!(answered(&line).as_deref(), Some(wanted), "{line}");
     }
@@ -264,7 +131,8 @@ fn lines_that_are_no_calls() {
         "admit 3 1 2 4 1 3 5",
         "admit 3 1 2 4 1 3 5 7 0",
         "admit 3 1 2 4294967295 1 3 5 7",
-        "admit 3 1 2 4 1 3 5 4294967296",
+        "admit 3 1 2 4294967300 1 3 5 7",
+        "admit 3 1 2 4 1 3 5 18446744073709551616",
         "admit 3 1 2 4 1 3 5 -7",
         "admit 3 1 2 4 1 3 5 +7",
         "0 admit 3 1 2 4 1 3 5 7",
@@ -278,92 +146,9 @@ fn lines_that_are_no_calls() {
     assert_eq!(answer_line(b"\xff\x00\xfe").as_deref(), Some(UNKNOWN));
 }
 
-/// Page lines that are no calls: tokens missing or left over, numbers that their places
-/// cannot hold, a level of 256 also in a record of another slot, and counts that lie.
-#[test]
-fn page_lines_that_are_no_calls() {
-    let lines = [
-        ("pwrite", ""),
-        ("pwrite", " 0"),
-        ("pwrite", " 0 0"),
-        ("pwrite", " 0 0 0"),
-        ("pwrite", " 0 1 0 0 5"),
-        ("pwrite", " 0 1 0 0 0"),
-        ("pwrite", " 0 1 0 0 0 5 0"),
-        ("pwrite", " 4294967296 1 0 0 0 5"),
-        ("pwrite", " 0 1 4294967296 0 0 5"),
-        ("pwrite", " 0 1 0 0 4294967296 5"),
-        ("pwrite", " 0 1 0 0 0 4294967296"),
-        ("pwrite", " 0 1 0 1 0 0 256 0 5"),
-        ("pwrite", " 0 1 0 1 9 0 256 0 5"),
-        ("pwrite", " 0 1 0 1 0 0 65536 0 5"),
-        ("pwrite", " 0 1 0 1 0 0 4294967295 0 5"),
-        ("pwrite", " 0 1 0 1 4294967296 0 0 0 5"),
-        ("pwrite", " 0 1 0 1 0 4294967296 0 0 5"),
-        ("pwrite", " 0 1 0 1 0 0 0 5"),
-        ("pwrite", " 0 1 0 2 0 0 0 0 5"),
-        ("pwrite", " 0 1 0 0 0 0 0 0 5"),
-        ("pwrite", " 0 1 0 4294967295 0 0 0 0 5"),
-        ("pwrite", " 0 1 0 1431655766 0 0 0 0 5"),
-        ("pwrite", " 0 4294967295 0 0 0 5"),
-        ("pwrite", " 0 2 0 0 0 5"),
-        ("pread", ""),
-        ("pread", " 0"),
-        ("pread", " 0 0 0"),
-        ("pread", " 0 1 0 0"),
-        ("pread", " 0 1 0 0 1 1"),
-        ("pread", " 0 1 0 0 0 1"),
-        ("pread", " 0 2 0 0 1"),
-        ("pread", " 0 4294967295 0 0 1"),
-        ("pread", " 4294967296 1 0 0 1"),
-        ("pread", " 0 1 0 4294967296 1"),
-        ("Pread", " 0 1 0 0 1"),
-        ("pwrites", " 0 1 0 0 0 5"),
-    ];
-    for (verb, arguments) in lines {
-        let line = format!("{verb} {KITCHEN}{arguments}");
-        assert_eq!(answered(&line).as_deref(), Some(UNKNOWN), "{line}");
-    }
-}
-
 /// So many times the same tokens, each time after a space, with their count before them.
 fn counted(count: usize, tokens: &str) -> String {
     format!("{count}{}", format!(" {tokens}").repeat(count))
-}
-
-/// The longest pages and lists of records: 2,048 slots and 256 records are taken, one
-/// more of either is refusal 13, and so is as much as the room for a line has.
-#[test]
-fn longest_pages() {
-    let most = u32::MAX.to_string();
-    let other = format!("{most} {most} 255");
-    for (slots, records, wanted) in [
-        (2_048, 256, "word 85 d 0"),
-        (2_049, 256, "refused 13"),
-        (2_048, 257, "refused 13"),
-        (0, 257, "refused 13"),
-        (0, 256, "refused 14"),
-        (11_900, 0, "refused 13"),
-        (1, 5_000, "refused 13"),
-    ] {
-        let page = counted(slots, &most);
-        let records = counted(records, &other);
-        let line = format!("pwrite {KITCHEN} {most} {page} {records} 0 5");
-        assert!(line.len() <= ROOM_FOR_LINE);
-        let after = match wanted {
-            "word 85 d 0" => page.replacen(&most, "85", 1),
-            _ => page.clone(),
-        };
-        let whole = format!("{wanted} page {after}");
-        assert_eq!(answered(&line), Some(whole));
-        let line = format!("pread {KITCHEN} {most} {page} 0 1");
-        let wanted = match slots {
-            0 => "refused 14",
-            1..=2_048 => "refused 10 7",
-            _ => "refused 13",
-        };
-        assert_eq!(answered(&line).as_deref(), Some(wanted));
-    }
 }
 
 /// A line that just fits the console's room is a call; a byte more is too many. A list
@@ -416,10 +201,18 @@ fn carriage_returns() {
     assert_eq!(all_answered(&input), wanted);
 }
 
-/// At k = 32 every message is below 2^k.
+/// At k = 32 a message may have 32 bits and no more; at k = 64 every message is below 2^k.
 #[test]
 fn widest_message() {
-    let units: String = (0..32).map(|i| format!(" {}", 1u32 << i)).collect();
-    let line = format!("write 32 32 0 64{units}{units} 4294967295 0 0");
-    assert_eq!(answered(&line).as_deref(), Some("word 4294967295 d 0"));
+    for (k, message, wanted) in [
+        (32, u32::MAX.into(), "word 4294967295 d 0"),
+        (32, 1 << 32, "refused 7"),
+        (63, Word::MAX >> 1, "word 9223372036854775807 d 0"),
+        (63, 1 << 63, "refused 7"),
+        (64, Word::MAX, "word 18446744073709551615 d 0"),
+    ] {
+        let units: String = (0..k).map(|i| format!(" {}", (1 as Word) << i)).collect();
+        let line = format!("write {k} {k} 0 {}{units}{units} {message} 0 0", 2 * k);
+        assert_eq!(answered(&line).as_deref(), Some(wanted));
+    }
 }

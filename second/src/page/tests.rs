@@ -4,9 +4,10 @@
 use super::*;
 use crate::making::{attic, kitchen, random_sheet};
 use crate::random::Random;
+use crate::word::all_ones;
 
 /// A word that no slot of these tests gets by a write.
-const OLD: u32 = 1_000_000_007;
+const OLD: Word = 1_000_000_000_000_000_003;
 
 /// A record for a slot.
 fn record(slot: u32, cell: u32, level: u8) -> Record {
@@ -15,7 +16,7 @@ fn record(slot: u32, cell: u32, level: u8) -> Record {
 
 /// What a page write to so many old words answers; checks that a refused call changes
 /// nothing and that a good one changes its slot alone, to the word answered.
-fn written(sheet: &Sheet, slots: usize, records: &[Record], slot: u32, message: u32) -> Told {
+fn written(sheet: &Sheet, slots: usize, records: &[Record], slot: u32, message: Word) -> Told {
     let mut page = vec![OLD; slots];
     let result = page_write(sheet, &mut page, records, slot, message);
     let mut wanted = vec![OLD; slots];
@@ -30,7 +31,7 @@ fn written(sheet: &Sheet, slots: usize, records: &[Record], slot: u32, message: 
 type Told = Result<Answer, Refusal>;
 
 /// The answer with this word and d.
-fn word(word: u32, d: u32) -> Told {
+fn word(word: Word, d: Word) -> Told {
     Ok(Answer::Word { word, d })
 }
 
@@ -77,7 +78,7 @@ fn no_such_slot() {
     for (slots, slot) in [(0, 0), (1, 1), (3, 3), (3, 259), (3, 65_536), (3, u32::MAX)] {
         let bad = [record(slot, 9, 9)];
         assert_eq!(written(&kitchen(), slots, &bad, slot, 8), Err(bare(14)));
-        let page = vec![u32::MAX; slots];
+        let page = vec![Word::MAX; slots];
         assert_eq!(page_read(&kitchen(), &page, slot, 9), Err(bare(14)));
     }
     assert_eq!(written(&kitchen(), 3, &[], 2, 5), word(85, 0));
@@ -100,6 +101,7 @@ fn records_judged_in_order() {
     assert_eq!(of_0(&[(7, 0)]), Err(placed(15, 0)));
     assert_eq!(of_0(&[(0, 1), (u32::MAX, 0)]), Err(placed(15, 1)));
     assert_eq!(of_0(&[(32, 0)]), Err(placed(15, 0)));
+    assert_eq!(of_0(&[(64, 0)]), Err(placed(15, 0)));
     assert_eq!(of_0(&[(0, 2)]), Err(placed(15, 0)));
     assert_eq!(of_0(&[(0, 255)]), Err(placed(15, 0)));
     assert_eq!(of_0(&[(0, 2), (0, 1)]), Err(placed(15, 0)));
@@ -145,39 +147,41 @@ fn order_of_a_read() {
 }
 
 /// Of two words that fit, the attic sheet's slot gets the one with the smaller d; all 3
-/// cells may be stuck, and at 32 cells all 32.
+/// cells may be stuck, and at 32 and 64 cells all of them.
 #[test]
 fn smallest_d_in_a_slot() {
     let records: Vec<Record> = (0..3).map(|cell| record(0, cell, 0)).collect();
     assert_eq!(written(&attic(), 1, &records[..1], 0, 1), word(2, 1));
     assert_eq!(written(&attic(), 1, &records[..2], 0, 1), word(4, 2));
     assert_eq!(written(&attic(), 1, &records, 0, 1), Err(bare(9)));
-    let units: Vec<u32> = (0..32).map(|cell| 1 << cell).collect();
-    let widest = Sheet {
-        n: 32,
-        k: 32,
-        l: 0,
-        rows: [units.clone(), units].concat(),
-    };
-    let ones: Vec<Record> = (0..32).map(|cell| record(7, cell, 1)).collect();
-    assert_eq!(written(&widest, 8, &ones, 7, u32::MAX), word(u32::MAX, 0));
-    assert_eq!(written(&widest, 8, &ones, 7, u32::MAX - 1), Err(bare(9)));
+    for n in [32, 63, 64] {
+        let units: Vec<Word> = (0..n).map(|cell| 1 << cell).collect();
+        let rows = [units.clone(), units].concat();
+        let (k, l) = (n, 0);
+        let widest = Sheet { n, k, l, rows };
+        let most = all_ones(n);
+        let mut ones: Vec<Record> = (0..n).map(|cell| record(7, cell, 1)).collect();
+        assert_eq!(written(&widest, 8, &ones, 7, most), word(most, 0));
+        assert_eq!(written(&widest, 8, &ones, 7, most - 1), Err(bare(9)));
+        ones.push(record(7, n, 1));
+        assert_eq!(written(&widest, 8, &ones, 7, most), Err(placed(15, n)));
+    }
 }
 
 /// Another account of a slot's records: one walk over all of them that gathers the two
 /// words and stops at the first record that breaks the rule.
-fn gathered(n: u32, records: &[Record], slot: u32) -> Result<(u32, u32), u32> {
-    let (mut stuck, mut levels, mut place) = (0u32, 0u32, 0);
+fn gathered(n: u32, records: &[Record], slot: u32) -> Result<(Word, Word), u32> {
+    let (mut stuck, mut levels, mut place): (Word, Word, u32) = (0, 0, 0);
     for record in records.iter().filter(|record| record.slot == slot) {
         if record.cell >= n || record.level > 1 {
             return Err(place);
         }
         let (known, level) = (stuck >> record.cell & 1, levels >> record.cell & 1);
-        if known == 1 && level != u32::from(record.level) {
+        if known == 1 && level != Word::from(record.level) {
             return Err(place);
         }
         stuck |= 1 << record.cell;
-        levels |= u32::from(record.level) << record.cell;
+        levels |= Word::from(record.level) << record.cell;
         place += 1;
     }
     Ok((stuck, levels))
@@ -232,10 +236,10 @@ fn other_slots_do_not_matter() {
         let (message, radius) = (random.word(sheet.k), random.between(0, 2));
         let mut others = records.clone();
         for one in others.iter_mut().filter(|one| one.slot != 1) {
-            *one = record(random.one_of(&[0, 2, 257, u32::MAX]), random.word(32), 255);
+            *one = record(random.one_of(&[0, 2, 257, u32::MAX]), random.number(), 255);
         }
         let y = random.word(sheet.n);
-        let mut pages = [[0, y, 0], [random.word(32), y, random.word(32)]];
+        let mut pages = [[0, y, 0], [random.word(64), y, random.word(64)]];
         let reads = pages.map(|page| page_read(&sheet, &page, 1, radius));
         assert_eq!(reads[0], reads[1]);
         let [first, second] = &mut pages;

@@ -1,14 +1,17 @@
 //! Tests of the tables: the bench sheets and document 002's example, every small choice of
-//! tables, the shape by another account, the refusals, their order, and the lent rooms.
+//! tables, and the shape by another account. Those of the refusals are in `refusals`.
 
 use super::*;
 use crate::calls::{d0, d1};
 use crate::every::{every_sheet, every_tables};
 use crate::making::{attic, kitchen, near_sheet, random_numbers, random_tables, shaped_sheet};
 use crate::random::Random;
+use crate::word::all_ones;
+
+mod refusals;
 
 /// What the rooms of these tests hold before a call.
-const OLD: u32 = 1_000_000_007;
+const OLD: Word = 1_000_000_000_000_000_003;
 
 /// The kitchen sheet's numbers and tables.
 fn kitchen_tables() -> ([u32; 3], Tables) {
@@ -17,7 +20,7 @@ fn kitchen_tables() -> ([u32; 3], Tables) {
 
 /// What `to_sheet` makes in a room of this size; checks that a refused call leaves the room
 /// as it was.
-fn made(nkl: [u32; 3], tables: &Tables, size: usize) -> Result<Vec<u32>, Refusal> {
+fn made(nkl: [u32; 3], tables: &Tables, size: usize) -> Result<Vec<Word>, Refusal> {
     let mut room = vec![OLD; size];
     let told = to_sheet(nkl, tables, &mut room);
     if told.is_err() {
@@ -63,8 +66,8 @@ fn check_tables(nkl: [u32; 3], tables: &Tables) {
 }
 
 /// A row as it is printed, column 0 first, blocks apart.
-fn printed(rows: &[&str]) -> Vec<u32> {
-    let bit = |(c, digit): (usize, char)| u32::from(digit == '1') << c;
+fn printed(rows: &[&str]) -> Vec<Word> {
+    let bit = |(c, digit): (usize, char)| Word::from(digit == '1') << c;
     let cells = |row: &&str| {
         let digits = row.chars().filter(|digit| *digit != ' ');
         digits.enumerate().map(bit).sum()
@@ -146,13 +149,17 @@ fn larger_tables() {
         let tables = random_tables(&mut random, n, k, l);
         check_tables([n, k, l], &tables);
     }
-    for (k, l) in [(32, 0), (1, 31), (31, 1), (1, 0), (31, 0), (1, 1), (10, 11)] {
-        let r = 32 - k - l;
-        let ones = |(rows, columns): (u32, u32)| {
-            let row = u32::MAX.checked_shr(32 - columns).unwrap_or(0);
-            vec![row; rows as usize]
-        };
-        check_tables([32, k, l], &[(k, r), (l, k), (l, r)].map(ones));
+    for n in [32, 63, 64] {
+        let (last, third) = (n - 1, n / 3);
+        let some = [(1, 0), (1, 1), (third, third + 1)];
+        for (k, l) in [(n, 0), (1, last), (last, 1), (last, 0)]
+            .into_iter()
+            .chain(some)
+        {
+            let r = n - k - l;
+            let ones = |(rows, columns): (u32, u32)| vec![all_ones(columns); rows as usize];
+            check_tables([n, k, l], &[(k, r), (l, k), (l, r)].map(ones));
+        }
     }
 }
 
@@ -160,8 +167,8 @@ fn larger_tables() {
 /// and of G0 the l cells from k on.
 fn has_shape(sheet: &Sheet) -> bool {
     let (k, l) = (sheet.k, sheet.l);
-    let low = |cells: u32| (1u64 << cells) - 1;
-    let part = |row: u32, mask: u64| u64::from(row) & mask;
+    let low = |cells: u32| (1u128 << cells) - 1;
+    let part = |row: Word, mask: u128| u128::from(row) & mask;
     let g1 = (0..k).all(|i| part(sheet.rows[i as usize], low(k + l)) == 1 << i);
     let own = low(k + l) - low(k);
     g1 && (k..k + l).all(|cell| part(sheet.rows[cell as usize], own) == 1 << cell)
@@ -171,8 +178,8 @@ fn has_shape(sheet: &Sheet) -> bool {
 /// G0.
 fn moved_down(sheet: &Sheet) -> Tables {
     let (k, l) = (sheet.k as usize, sheet.l as usize);
-    let down = |row: &u32| (u64::from(*row) >> (k + l)) as u32;
-    let low = |row: &u32| (u64::from(*row) & ((1 << k) - 1)) as u32;
+    let down = |row: &Word| (u128::from(*row) >> (k + l)) as Word;
+    let low = |row: &Word| (u128::from(*row) & ((1 << k) - 1)) as Word;
     let (g1, g0) = sheet.rows[..k + l].split_at(k);
     [
         g1.iter().map(down).collect(),
@@ -254,135 +261,4 @@ fn other_shapes() {
     assert_eq!(with(&[(0, 1), (6, 5)]), Err(bare(24)));
     assert_eq!(with(&[(1, 2)]), Err(bare(24)));
     assert_eq!(with(&[(3, 2)]), Err(bare(24)));
-}
-
-/// Any other size of a table, or of the room, is refusal 1, be there stray bits or not.
-#[test]
-fn wrong_sizes_of_tables() {
-    let (nkl, tables) = kitchen_tables();
-    assert_eq!(made(nkl, &tables, 10), Ok(kitchen().rows));
-    for size in [0, 7, 9, 11, 4_096] {
-        assert_eq!(made(nkl, &tables, size), Err(bare(1)));
-    }
-    for table in 0..3 {
-        for length in (0..=5).filter(|length| *length != tables[table].len()) {
-            for row in [0, u32::MAX] {
-                let mut wrong = tables.clone();
-                wrong[table] = vec![row; length];
-                assert_eq!(made(nkl, &wrong, 10), Err(bare(1)));
-            }
-        }
-    }
-}
-
-/// Wrong n, k and l are refusal 1, also where k + l or n + k would be right once wrapped at
-/// 32 bits, and where tables and room have the sizes that they ask for.
-#[test]
-fn wrong_numbers() {
-    for (n, k, l) in [(0, 0, 0), (1, 0, 1), (33, 1, 0), (33, 33, 0), (3, 2, 2)] {
-        let tables = [k, l, l].map(|rows| vec![0; rows as usize]);
-        assert_eq!(made([n, k, l], &tables, (n + k) as usize), Err(bare(1)));
-    }
-    let (most, half) = (u32::MAX, 1 << 31);
-    for nkl in [
-        [most, 1, 1],
-        [7, most, 4],
-        [7, 1, most],
-        [7, half, half],
-        [most, most, most],
-    ] {
-        for size in [0, 6, 8] {
-            let tables = [vec![0], vec![0], vec![0]];
-            assert_eq!(made(nkl, &tables, size), Err(bare(1)));
-            let empty = [vec![], vec![], vec![]];
-            assert_eq!(made(nkl, &empty, size), Err(bare(1)));
-        }
-    }
-}
-
-/// A stray bit at the first column that a table does not have, and at the last bit, in each
-/// row of each table: the row is counted through P, then R, then Q; the first one is told.
-#[test]
-fn stray_bits() {
-    let nkl = [9, 4, 2];
-    let rows = [vec![7; 4], vec![15; 2], vec![7; 2]];
-    assert!(made(nkl, &rows, 13).is_ok());
-    let places = [(0, 0), (0, 3), (1, 0), (1, 1), (2, 0), (2, 1)];
-    for (table, row) in places {
-        let first = [0, 4, 6][table] + row as u32;
-        for column in [[3, 4, 3][table], 31] {
-            let mut wrong = rows.clone();
-            wrong[table][row] |= 1 << column;
-            assert_eq!(made(nkl, &wrong, 13), Err(placed(2, first)));
-            wrong[2][1] = u32::MAX;
-            assert_eq!(made(nkl, &wrong, 13), Err(placed(2, first)));
-            assert_eq!(made(nkl, &wrong, 12), Err(bare(1)));
-        }
-    }
-}
-
-/// A table with no columns has rows that are 0: any bit of theirs is stray.
-#[test]
-fn stray_bits_without_columns() {
-    let good = [vec![0], vec![1, 0], vec![0, 0]];
-    assert!(made([3, 1, 2], &good, 4).is_ok());
-    for (table, row, place) in [(0, 0, 0), (2, 0, 3), (2, 1, 4)] {
-        let mut wrong = good.clone();
-        wrong[table][row] = 1;
-        assert_eq!(made([3, 1, 2], &wrong, 4), Err(placed(2, place)));
-    }
-    let mut wide = [vec![0; 32], vec![], vec![]];
-    assert!(made([32, 32, 0], &wide, 64).is_ok());
-    wide[0][31] = 1 << 31;
-    assert_eq!(made([32, 32, 0], &wide, 64), Err(placed(2, 31)));
-}
-
-/// A room of another size for P, R or Q is refusal 1, before 2 to 6 and before 24; any
-/// sheet whose numbers are wrong is, in any rooms.
-#[test]
-fn wrong_sizes_of_rooms() {
-    let (mut stray, mut other) = (kitchen(), kitchen());
-    stray.rows[0] |= 128;
-    other.rows[0] ^= other.rows[3];
-    assert!(admit(&other).is_ok());
-    let right = [3, 1, 1];
-    let told = [kitchen(), stray, other].map(|sheet| {
-        for room in 0..3 {
-            for size in (0..=4).chain([4_096]).filter(|size| *size != right[room]) {
-                let mut sizes = right;
-                sizes[room] = size;
-                assert_eq!(given(&sheet, sizes), Err(bare(1)));
-            }
-        }
-        given(&sheet, right)
-    });
-    let wanted = [Ok(kitchen_tables().1), Err(placed(2, 0)), Err(bare(24))];
-    assert_eq!(told, wanted);
-    let (n, k, l) = (7, u32::MAX, 4);
-    let rows = vec![0; 6];
-    let wrong = Sheet { n, k, l, rows };
-    assert_eq!(given(&wrong, [3, 4, 4]), Err(bare(1)));
-    let mut short = kitchen();
-    short.rows.pop();
-    assert_eq!(given(&short, right), Err(bare(1)));
-}
-
-/// Refusals 2 to 6 come before 24: sheets that break a rule and have another shape too.
-#[test]
-fn refusals_before_the_shape() {
-    for (row, value, wanted) in [
-        (3, 255, placed(2, 3)),
-        (3, 126, placed(3, 3)),
-        (7, 1, placed(4, 3)),
-        (3, 0, placed(5, 3)),
-        (6, 54, placed(6, 6)),
-    ] {
-        let mut sheet = kitchen();
-        sheet.rows[row] = value;
-        assert_eq!(tables_of(&sheet), Err(wanted));
-        sheet.rows[0] ^= sheet.rows[1];
-        sheet.rows[8] ^= sheet.rows[7];
-        assert!(!has_shape(&sheet));
-        assert_eq!(tables_of(&sheet), Err(wanted));
-    }
 }

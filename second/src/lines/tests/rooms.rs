@@ -8,7 +8,7 @@ const KITCHEN_TABLES: &str = "tosheet 7 3 1 3 3 5 6 1 7 1 7";
 
 /// Calls that make a sheet, and their answers: good ones, wrong sizes, stray bits, the order
 /// of the two, and numbers at their limits.
-const MADE: [(&str, &str); 22] = [
+const MADE: [(&str, &str); 25] = [
     (
         "tosheet 7 3 1 3 3 5 6 1 7 1 7 10 0",
         "done room 10 49 82 100 127 27 45 78 9 10 12",
@@ -58,6 +58,15 @@ const MADE: [(&str, &str); 22] = [
     ),
     ("tosheet 4294967295 1 0 1 0 0 0 0 7", "refused 1 room 0"),
     ("tosheet 33 1 0 1 0 0 0 3 7", "refused 1 room 3 7 7 7"),
+    ("tosheet 65 1 0 1 0 0 0 3 7", "refused 1 room 3 7 7 7"),
+    (
+        "tosheet 2 1 0 1 4294967296 0 0 3 4294967296",
+        "refused 2 0 room 3 4294967296 4294967296 4294967296",
+    ),
+    (
+        "tosheet 2 1 0 1 18446744073709551615 0 0 1 18446744073709551615",
+        "refused 1 room 1 18446744073709551615",
+    ),
 ];
 
 /// Sheets asked for their tables, the rooms, and the answers: another H, rooms of wrong
@@ -122,7 +131,7 @@ fn table_calls() {
 /// same, be the answer longer than a line may be.
 #[test]
 fn largest_rooms() {
-    let fill = u32::MAX.to_string();
+    let fill = Word::MAX.to_string();
     let room = counted(4_096, &fill);
     let line = format!("{KITCHEN_TABLES} 4096 {fill}");
     assert_eq!(answered(&line), Some(format!("refused 1 room {room}")));
@@ -130,7 +139,14 @@ fn largest_rooms() {
     let wanted = format!("refused 1 P {room} R {room} Q {room}");
     assert!(wanted.len() > ROOM_FOR_LINE);
     assert_eq!(answered(&line), Some(wanted));
-    for size in ["4097", "04097", "65536", "4294967295", "4294967296"] {
+    for size in [
+        "4097",
+        "04097",
+        "65536",
+        "4294967295",
+        "4294967296",
+        "4294967306",
+    ] {
         for line in [
             format!("{KITCHEN_TABLES} {size} 0"),
             format!("totables {KITCHEN} {size} 0 1 0 1 0"),
@@ -157,10 +173,12 @@ fn table_lines_that_are_no_calls() {
         "tosheet 7 3 1 3 3 5 6 1 7 1 7",
         "tosheet 7 3 1 3 3 5 6 1 7 1 7 10",
         "tosheet 7 3 1 3 3 5 6 1 7 1 7 10 0 0",
-        "tosheet 7 3 1 3 3 5 6 1 7 1 7 10 4294967296",
-        "tosheet 7 3 1 3 3 5 4294967296 1 7 1 7 10 0",
+        "tosheet 7 3 1 3 3 5 6 1 7 1 7 10 18446744073709551616",
+        "tosheet 7 3 1 3 3 5 18446744073709551616 1 7 1 7 10 0",
         "tosheet 7 3 4294967296 3 3 5 6 1 7 1 7 10 0",
+        "tosheet 4294967303 3 1 3 3 5 6 1 7 1 7 10 0",
         "tosheet 7 3 1 4 3 5 6 1 7 1 7 10 0",
+        "tosheet 7 3 1 4294967299 3 5 6 1 7 1 7 10 0",
         "tosheet 7 3 1 3 3 5 6 4294967295 7 1 7 10 0",
         "tosheet 7 3 1 3 3 5 6 1 7 0 7 10 0",
         "Tosheet 7 3 1 3 3 5 6 1 7 1 7 10 0",
