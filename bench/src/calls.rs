@@ -1,7 +1,7 @@
 //! The five calls on a sheet, and what they tell, in one form for the store and for Rust.
 
 /// A word of cells, as wide as the store's own (`Word` of the crate `paper`).
-pub type Word = u32;
+pub type Word = u64;
 
 /// The number of cells that a word has.
 pub const WIDTH: usize = Word::BITS as usize;

@@ -3,9 +3,10 @@ use crate::calls::*;
 use crate::fast::{sum, Fast};
 use crate::sheets::{random, Random};
 
-/// The radius and the cap of the table's longest searches.
+/// The radius and the cap of the table's longest searches, and the cap at which a list over all cells still ends in time.
 const FAR: u32 = 4;
 const CAP: u32 = 8;
+const WIDE_CAP: u32 = 5;
 
 /// A call's own numbers.
 #[derive(Clone, Debug)]
@@ -166,30 +167,32 @@ fn more(draw: impl Fn(Sizes, &mut Random) -> Case) -> impl Fn(Sizes, &mut Random
     }
 }
 
-/// The table, at n 7 and at the largest n. Sheets with few codewords have words that no codeword is near to; d0 and d1 are more
+/// A measurement of d1 up to the cap for all cells.
+fn wide_d1((n, k, l): Sizes, g: &mut Random) -> Case {
+    Case {
+        sheet: random(n, k, l, g),
+        call: Call::D1 { cap: WIDE_CAP },
+    }
+}
+
+/// The table, at n 7, n 32 and the largest n. Sheets with few codewords have words that no codeword is near to; d0 and d1 are more
 /// than the cap only where l, or r, is most of n.
 pub fn rows() -> Vec<Row> {
     let mut rows = Vec::new();
-    for sizes in [
-        (7, 3, 1),
-        (WIDTH, WIDTH / 2, WIDTH / 4),
-        (WIDTH, WIDTH / 4, WIDTH / 8),
-    ] {
+    let wide = (WIDTH, WIDTH / 2, WIDTH / 4);
+    for sizes in [(7, 3, 1), (32, 16, 8), (32, 8, 4), wide] {
         rows.push(row(sizes, "admit", 64, admit));
         rows.push(row(sizes, "write", 64, write));
         rows.push(row(sizes, "read, radius 2, hit", 64, hit));
         rows.push(row(sizes, "d0, cap 8", 8, d0));
         rows.push(row(sizes, "d1, cap 8", 8, d1));
     }
-    rows.push(row((7, 1, 0), "read, radius 4, miss", 8, miss));
-    rows.push(row(
-        (WIDTH, WIDTH / 4, WIDTH / 8),
-        "read, radius 4, miss",
-        8,
-        miss,
-    ));
-    rows.push(row((WIDTH, 2, WIDTH - 8), "d0, cap 8, more", 1, more(d0)));
-    rows.push(row((WIDTH, 4, 2), "d1, cap 8, more", 1, more(d1)));
+    for sizes in [(7, 1, 0), (32, 8, 4), (WIDTH, WIDTH / 4, WIDTH / 8)] {
+        rows.push(row(sizes, "read, radius 4, miss", 8, miss));
+    }
+    rows.push(row((32, 2, 24), "d0, cap 8, more", 1, more(d0)));
+    rows.push(row((32, 4, 2), "d1, cap 8, more", 1, more(d1)));
+    rows.push(row((WIDTH, 8, 4), "d1, cap 5, more", 1, more(wide_d1)));
     rows
 }
 
@@ -214,10 +217,17 @@ fn any_sheet(g: &mut Random) -> Sheet {
     sheet
 }
 
-/// A call of any kind, its numbers within their limits and beyond them. The list of a measurement is kept short.
+/// A radius or a cap, within its limits and beyond them, at which the list over n cells is short.
+fn any_limit(n: usize, g: &mut Random) -> u32 {
+    let most = if n > 32 { 3 } else { 4 };
+    [0, 1, 2, 3, most, 9][g.below(6)]
+}
+
+/// A call of any kind, its numbers within their limits and beyond them. The list that is searched is kept short.
 pub fn any_case(g: &mut Random) -> Case {
     let sheet = any_sheet(g);
     let n = (sheet.n + g.below(2)).min(WIDTH);
+    let limit = any_limit(n, g);
     let call = match g.below(5) {
         0 => Call::Admit,
         1 => {
@@ -237,14 +247,10 @@ pub fn any_case(g: &mut Random) -> Case {
         }
         2 => Call::Read {
             y: g.word(n),
-            radius: g.below(6) as u32,
+            radius: limit,
         },
-        3 => Call::D0 {
-            cap: [0, 1, 2, 3, 4, 9][g.below(6)],
-        },
-        _ => Call::D1 {
-            cap: [0, 1, 2, 3, 4, 9][g.below(6)],
-        },
+        3 => Call::D0 { cap: limit },
+        _ => Call::D1 { cap: limit },
     };
     Case { sheet, call }
 }
