@@ -17,8 +17,7 @@ use Rattle.text.specs.declared.Number.{Number}
 use Rattle.text.specs.declared.Number.the-variants as Number
 use Rattle.text.specs.Numerals.{numeral}
 use Rattle.text.proofs.Numerals.{numeral-most}
-use Rattle.paper.specs.Words.{width}
-use Rattle.lines.specs.Shapes.{mostRoom, mostOf, itemsOf, nextOf, itemOf, items, unrolled, joined, before, fill, stored, filled, Fits, Records, Stands}
+use Rattle.lines.specs.Shapes.{mostOf, itemsOf, nextOf, itemOf, items, unrolled, joined, before, fill, stored, filled, Fits, Records, Stands}
 
 -- ---- the letters that are to come
 

@@ -25,4 +25,5 @@ pub mod Tables
 pub mod TablePinned
 pub mod TableBench
 pub mod Wide
+pub mod Computing
 pub mod WideBench

@@ -1,98 +1,31 @@
--- The sheet with n 64 of document 02, request 5, and n 65: a table of calls and what they tell, and one claim over its rows, of the definitions.
--- The definition of a weight takes as many steps as the number is large, so that a product over 64 cells does not compute. A count that stops where no one is left
--- does, and is shown to be the same: no definition is another one for 64 cells. Assumes nothing.
-use mathlib.Core.Path.{_≡_, refl, sym, ap, ap₂, _∙_, subst}
-use mathlib.Core.Bool.{Bool, not, _&&_}
+-- Worked calls at 64 cells, and n 65, for request 5: a table of calls and what they tell, and one claim over its rows, of the definitions. Assumes nothing.
+use mathlib.Core.Path.{_≡_, refl, sym, ap, ap₂, _∙_}
 use mathlib.Core.Logic.{⊎-elim}
 use mathlib.Core.List.{List, [], _∷_, _++_, map}
-use Prim.Native.Nat.{ℕ, zero, suc, _+_, _-_, _*_, _/_, _%_, _^_, _<_}
+use Prim.Native.Nat.{ℕ, zero, suc, _+_, _-_, _%_, _^_, _<_}
 use native.Mathlib.Nat.{pow-suc}
 use native.Mathlib.Omega.{arith}
-use lib.Bits.{bitAnd}
-use lib.Count.{onesIn, ones, ones-step, ones-ones}
-use lib.Dec.{eqb, leb}
-use lib.Arith.{lt-one}
+use lib.Count.{ones, ones-ones}
 use lib.ListN.{length}
 use lib.Pow.{pow-pos}
 use Rattle.paper.specs.First.{first}
-use Rattle.paper.specs.Listing.{Search, listed, weights, search}
-use Rattle.paper.specs.Plate.{D0, searchD0, searchD1, plateD0, plateD1, capped, measuresAdmittedD0, measuresAdmittedD1, measuresD0, measuresD1}
-use Rattle.paper.specs.Reading.{strayCell, mostRadius, nearest, heard, readsAdmitted, reads}
-use Rattle.paper.specs.Refusals.{Told, answer, more, refusal, unless, unlessAt}
-use Rattle.paper.specs.Sheet.{Sheet, sheet, G0, H, M, judged, Admitted}
+use Rattle.paper.specs.Listing.{listed, weights, search}
+use Rattle.paper.specs.Plate.{D0, measuresD0}
+use Rattle.paper.specs.Refusals.{Told, answer, more, refusal}
+use Rattle.paper.specs.Sheet.{Sheet, sheet, G0, M, judged, Admitted}
 use Rattle.paper.specs.Tables.{each, column, built, buildsSized, builds}
-use Rattle.paper.specs.Words.{width, cell, product, products, sum, _⊕_}
-use Rattle.paper.specs.Writing.{wordOf, fits, writesAdmitted, writes}
-use Rattle.words.proofs.Cells.{half-lt, cell-suc, cell-0, cell-lt, cell-of-0, cell-cases, no-cell}
+use Rattle.paper.specs.Words.{cell, product, products, sum, _⊕_}
+use Rattle.paper.specs.Writing.{writesAdmitted}
+use Rattle.words.proofs.Cells.{cell-lt, cell-of-0, cell-cases, no-cell}
 use Rattle.words.proofs.Products.{⊕-product, product-comm, product-unit, cell-products}
-use Rattle.words.proofs.Sums.{⊕-above, ones-zero}
+use Rattle.words.proofs.Sums.{⊕-above, ones-all}
 use Rattle.listing.proofs.Listed.{length-zero, weights-cons}
 use Rattle.listing.proofs.Lengths.{counts, next, line, total, list-length}
-use Rattle.listing.proofs.Searched.{search-same}
-use Rattle.sheet.proofs.Verdicts.{admitted-next}
 use Rattle.blocks.proofs.Lists.{getD-each}
-use Rattle.promises.proofs.Bench.{Call, write, read, d0, d1, outcome, Case, _gives_}
+use Rattle.promises.proofs.Bench.{write, read, d0, d1, outcome, Case, _gives_}
+use Rattle.promises.proofs.Computing.{counted, quick, quick-products, write-so, read-so, d0-so, d1-so}
 use Rattle.promises.proofs.Plate.{more-d0, measured-d0}
 use Rattle.promises.proofs.Tables.{build-admitted}
-
--- ---- products that compute
-
--- the ones of the lowest `most` cells of x, counted until none is left
-unfoldable counted : ℕ → ℕ → ℕ
-counted zero x = 0
-counted (suc most) zero = 0
-counted (suc most) (suc x) = suc x % 2 + counted most (suc x / 2)
-
-counted-ones : (most x : ℕ) → onesIn most x ≡ counted most x
-unfolding onesIn counted
-counted-ones zero x = refl
-counted-ones (suc most) zero = omega (arith, counted-ones most 0, none most)
-  where
-    none : (most : ℕ) → counted most 0 ≡ 0
-    none zero = refl
-    none (suc most) = refl
-counted-ones (suc most) (suc x) = ap (λ (y : ℕ). suc x % 2 + y) (counted-ones most (suc x / 2))
-
--- the products of x with each row, so counted
-unfoldable quick : List ℕ → ℕ → ℕ
-quick [] x = 0
-quick (row ∷ rows) x = counted (bitAnd row x) (bitAnd row x) % 2 + 2 * quick rows x
-
-quick-products : (rows : List ℕ) (x : ℕ) → products rows x ≡ quick rows x
-unfolding products quick ones
-quick-products [] x = refl
-quick-products (row ∷ rows) x = ap₂ (λ (a b : ℕ). a % 2 + 2 * b) (counted-ones (bitAnd row x) (bitAnd row x)) (quick-products rows x)
-
-quick-clear : (rows : List ℕ) (x : ℕ) → eqb (products rows x) 0 ≡ eqb (quick rows x) 0
-quick-clear rows x = ap (λ (p : ℕ). eqb p 0) (quick-products rows x)
-
--- ---- what the calls tell of an admitted sheet, by such products
-
-module _ (s : Sheet) (ok : Admitted s) where
-  write-so : (w stuck levels : ℕ) → writes s w stuck levels ≡ writesAdmitted s w stuck levels
-  unfolding writes
-  write-so w stuck levels = admitted-next s ok _
-
-  read-so : (y t : ℕ) → reads s y t
-      ≡ unlessAt (first width (strayCell (s .n) y)) 10 0
-      (unless (leb t mostRadius) 11 (heard s y (search (λ z. eqb (quick (H s) (y ⊕ z)) 0) 0 (weights (s .n) 0 (t + 1)))))
-  unfolding reads readsAdmitted nearest
-  read-so y t =
-      admitted-next s ok _
-      ∙ ap (λ (f : Search). unlessAt (first width (strayCell (s .n) y)) 10 0 (unless (leb t mostRadius) 11 (heard s y f)))
-      (search-same _ _ (λ z. quick-clear (H s) (y ⊕ z)) 0 (weights (s .n) 0 (t + 1)))
-
-  d0-so : (cap : ℕ) → measuresD0 s cap ≡ unless (capped cap) 11 (plateD0 (search (λ z. eqb (quick (G0 s) z) 0) 0 (weights (s .n) 1 cap)))
-  unfolding measuresD0 measuresAdmittedD0 searchD0
-  d0-so cap = admitted-next s ok _ ∙ ap (λ (f : Search). unless (capped cap) 11 (plateD0 f)) (search-same _ _ (quick-clear (G0 s)) 0 (weights (s .n) 1 cap))
-
-  d1-so : (cap : ℕ) → measuresD1 s cap
-      ≡ unless (capped cap) 11 (plateD1 cap (search (λ z. eqb (quick (H s) z) 0 && not (eqb (quick (M s) z) 0)) 0 (weights (s .n) 1 cap)))
-  unfolding measuresD1 measuresAdmittedD1 searchD1
-  d1-so cap =
-      admitted-next s ok _
-      ∙ ap (λ (f : Search). unless (capped cap) 11 (plateD1 cap f))
-      (search-same _ _ (λ z. ap₂ (λ (a b : Bool). a && not b) (quick-clear (H s) z) (quick-clear (M s) z)) 0 (weights (s .n) 1 cap))
 
 -- ---- the sheet
 
@@ -126,12 +59,6 @@ longest =
     let whole : length (weights 64 0 9) ≡ 5130659561 = list-length 64 8 in
     omega (arith, weights-cons 64 0 8, length-zero 64, whole)
 
--- a word that is 1 at each of n cells weighs n
-all-ones : (n x : ℕ) → x < 2 ^ n → ((i : ℕ) → i < n → cell x i ≡ 1) → ones x ≡ n
-all-ones zero x h f = ap ones (lt-one h) ∙ ones-zero
-all-ones (suc n) x h f =
-    omega (arith, ones-step x, all-ones n (x / 2) (half-lt n h) (λ i l. sym (cell-suc x i) ∙ f (suc i) (omega arith)), f 0 (omega arith), cell-0 x)
-
 -- a word with product 0 with every row of G0 has everywhere what it has at cell 0
 same-cells : (x : ℕ) → products (G0 loft) x ≡ 0 → (i : ℕ) → i < 64 → cell x i ≡ cell x 0
 unfolding each
@@ -152,7 +79,7 @@ loft-d0 = record {
   has = record { cells = omega arith; nonzero = omega arith; clear = quick-products (G0 loft) (2 ^ 64 - 1) };
   weighs = ones-ones 64;
   none-lighter = λ x m. ⊎-elim (λ e. absurd (omega (arith, m .nonzero, no-cell 64 (m .cells) (λ i l. same-cells x (m .clear) i l ∙ e))))
-      (λ e. omega (arith, all-ones 64 x (m .cells) (λ i l. same-cells x (m .clear) i l ∙ e))) (cell-cases x 0);
+      (λ e. omega (arith, ones-all 64 x (m .cells) (λ i l. same-cells x (m .clear) i l ∙ e))) (cell-cases x 0);
 }
 
 -- and a measurement up to the largest cap tries the whole list

@@ -10,12 +10,12 @@ use native.Mathlib.Decide.{decLt}
 use native.Mathlib.Omega.{arith}
 use borrow.Author.Tests.{le-leb, lt-leb}
 use lib.Dec.{leb}
-use lib.Arith.{bin-ind}
+use lib.Arith.{bin-ind, lt-one}
 use lib.Pow.{pow-pos}
 use lib.Bits.{bitAnd, bitOr, and-comm, or-zero-l, xor-add-and, xor-shr, xor-comm, xor-self, xor-zero-r, xor-lt, xor-mod, xor-block, xor-shifted}
 use lib.Count.{ones, ones-step, ones-cat}
 use Rattle.paper.specs.Words.{cell, _⊕_}
-use Rattle.words.proofs.Cells.{by-half, parity, by-parity, and-half, and-odd, or-half, or-odd, cell-and, cell-lt, cell-low, cell-low-above, ext-all}
+use Rattle.words.proofs.Cells.{by-half, parity, by-parity, and-half, and-odd, or-half, or-odd, half-lt, cell-suc, cell-0, cell-and, cell-lt, cell-low, cell-low-above, ext-all}
 
 -- ---- the lowest cell and the rest
 
@@ -209,6 +209,12 @@ ones-unit i = rw (← one-mul (2 ^ i), ← add-zero (1 * 2 ^ i)) (ones-cat i 1 0
 
 pub ones-above : (n z : ℕ) → z < 2 ^ n → ones (z + 2 ^ n) ≡ suc (ones z)
 ones-above n z h = let e : z + 2 ^ n ≡ 1 * 2 ^ n + z = omega arith in rw (e, ones-cat n 1 z h) (omega (arith, ones-unit 0))
+
+-- a word with every one of n cells
+pub ones-all : (n x : ℕ) → x < 2 ^ n → ((i : ℕ) → i < n → cell x i ≡ 1) → ones x ≡ n
+ones-all zero x h f = ap ones (lt-one h) ∙ ones-zero
+ones-all (suc n) x h f =
+    omega (arith, ones-step x, ones-all n (x / 2) (half-lt n h) (λ i l. sym (cell-suc x i) ∙ f (suc i) (omega arith)), f 0 (omega arith), cell-0 x)
 
 -- a word cut in two parts that share no cell, the first of weight v
 pub record Split (n c v : ℕ) : Type 0 where
