@@ -1,23 +1,19 @@
--- What the calls tell of an admitted sheet, in a form that computes at 64 cells: for the worked calls there. The definition of a weight takes as many steps as the
+-- The searches of a read and of a measurement in a form that computes at 64 cells: for the worked calls there. The definition of a weight takes as many steps as the
 -- number is large; a count that stops where no one is left takes as many as there are cells, and is shown to be the same. Assumes nothing.
-use mathlib.Core.Path.{_≡_, refl, ap, ap₂, _∙_}
+use mathlib.Core.Path.{_≡_, refl, ap, ap₂}
 use mathlib.Core.Bool.{Bool, not, _&&_}
 use mathlib.Core.List.{List, [], _∷_}
 use Prim.Native.Nat.{ℕ, zero, suc, _+_, _*_, _/_, _%_}
 use native.Mathlib.Omega.{arith}
 use lib.Bits.{bitAnd}
 use lib.Count.{onesIn, ones}
-use lib.Dec.{eqb, leb}
-use Rattle.paper.specs.First.{first}
-use Rattle.paper.specs.Listing.{Search, weights, search}
-use Rattle.paper.specs.Plate.{searchD0, searchD1, plateD0, plateD1, capped, measuresAdmittedD0, measuresAdmittedD1, measuresD0, measuresD1}
-use Rattle.paper.specs.Reading.{strayCell, mostRadius, nearest, heard, readsAdmitted, reads}
-use Rattle.paper.specs.Refusals.{unless, unlessAt}
-use Rattle.paper.specs.Sheet.{Sheet, G0, H, M, Admitted}
-use Rattle.paper.specs.Words.{width, products, _⊕_}
-use Rattle.paper.specs.Writing.{writesAdmitted, writes}
+use lib.Dec.{eqb}
+use Rattle.paper.specs.Listing.{weights, search}
+use Rattle.paper.specs.Plate.{searchD0, searchD1}
+use Rattle.paper.specs.Reading.{nearest}
+use Rattle.paper.specs.Sheet.{Sheet, G0, H, M}
+use Rattle.paper.specs.Words.{products, _⊕_}
 use Rattle.listing.proofs.Searched.{search-same}
-use Rattle.sheet.proofs.Verdicts.{admitted-next}
 
 -- ---- products that compute
 
@@ -50,30 +46,18 @@ quick-products (row ∷ rows) x = ap₂ (λ (a b : ℕ). a % 2 + 2 * b) (counted
 quick-clear : (rows : List ℕ) (x : ℕ) → eqb (products rows x) 0 ≡ eqb (quick rows x) 0
 quick-clear rows x = ap (λ (p : ℕ). eqb p 0) (quick-products rows x)
 
--- ---- what the calls tell of an admitted sheet, by such products
+-- ---- the searches by such products
 
-module _ (s : Sheet) (ok : Admitted s) where
-  pub write-so : (w stuck levels : ℕ) → writes s w stuck levels ≡ writesAdmitted s w stuck levels
-  unfolding writes
-  write-so w stuck levels = admitted-next s ok _
+-- a read's
+pub quick-nearest : (s : Sheet) (y t : ℕ) → nearest s y t ≡ search (λ z. eqb (quick (H s) (y ⊕ z)) 0) 0 (weights (s .n) 0 (t + 1))
+unfolding nearest
+quick-nearest s y t = search-same _ _ (λ z. quick-clear (H s) (y ⊕ z)) 0 (weights (s .n) 0 (t + 1))
 
-  pub read-so : (y t : ℕ) → reads s y t
-      ≡ unlessAt (first width (strayCell (s .n) y)) 10 0
-      (unless (leb t mostRadius) 11 (heard s y (search (λ z. eqb (quick (H s) (y ⊕ z)) 0) 0 (weights (s .n) 0 (t + 1)))))
-  unfolding reads readsAdmitted nearest
-  read-so y t =
-      admitted-next s ok _
-      ∙ ap (λ (f : Search). unlessAt (first width (strayCell (s .n) y)) 10 0 (unless (leb t mostRadius) 11 (heard s y f)))
-      (search-same _ _ (λ z. quick-clear (H s) (y ⊕ z)) 0 (weights (s .n) 0 (t + 1)))
+-- those of the two measurements
+pub quick-d0 : (s : Sheet) (cap : ℕ) → searchD0 s cap ≡ search (λ z. eqb (quick (G0 s) z) 0) 0 (weights (s .n) 1 cap)
+unfolding searchD0
+quick-d0 s cap = search-same _ _ (quick-clear (G0 s)) 0 (weights (s .n) 1 cap)
 
-  pub d0-so : (cap : ℕ) → measuresD0 s cap ≡ unless (capped cap) 11 (plateD0 (search (λ z. eqb (quick (G0 s) z) 0) 0 (weights (s .n) 1 cap)))
-  unfolding measuresD0 measuresAdmittedD0 searchD0
-  d0-so cap = admitted-next s ok _ ∙ ap (λ (f : Search). unless (capped cap) 11 (plateD0 f)) (search-same _ _ (quick-clear (G0 s)) 0 (weights (s .n) 1 cap))
-
-  pub d1-so : (cap : ℕ) → measuresD1 s cap
-      ≡ unless (capped cap) 11 (plateD1 cap (search (λ z. eqb (quick (H s) z) 0 && not (eqb (quick (M s) z) 0)) 0 (weights (s .n) 1 cap)))
-  unfolding measuresD1 measuresAdmittedD1 searchD1
-  d1-so cap =
-      admitted-next s ok _
-      ∙ ap (λ (f : Search). unless (capped cap) 11 (plateD1 cap f))
-      (search-same _ _ (λ z. ap₂ (λ (a b : Bool). a && not b) (quick-clear (H s) z) (quick-clear (M s) z)) 0 (weights (s .n) 1 cap))
+pub quick-d1 : (s : Sheet) (cap : ℕ) → searchD1 s cap ≡ search (λ z. eqb (quick (H s) z) 0 && not (eqb (quick (M s) z) 0)) 0 (weights (s .n) 1 cap)
+unfolding searchD1
+quick-d1 s cap = search-same _ _ (λ z. ap₂ (λ (a b : Bool). a && not b) (quick-clear (H s) z) (quick-clear (M s) z)) 0 (weights (s .n) 1 cap)
