@@ -141,19 +141,19 @@ fn miss((n, k, l): Sizes, g: &mut Random) -> Case {
     }
 }
 
-/// A measurement of d0.
-fn d0((n, k, l): Sizes, g: &mut Random) -> Case {
-    Case {
+/// A measurement of d0 up to a cap.
+fn d0(cap: u32) -> impl Fn(Sizes, &mut Random) -> Case {
+    move |(n, k, l), g| Case {
         sheet: random(n, k, l, g),
-        call: Call::D0 { cap: CAP },
+        call: Call::D0 { cap },
     }
 }
 
-/// A measurement of d1.
-fn d1((n, k, l): Sizes, g: &mut Random) -> Case {
-    Case {
+/// A measurement of d1 up to a cap.
+fn d1(cap: u32) -> impl Fn(Sizes, &mut Random) -> Case {
+    move |(n, k, l), g| Case {
         sheet: random(n, k, l, g),
-        call: Call::D1 { cap: CAP },
+        call: Call::D1 { cap },
     }
 }
 
@@ -167,14 +167,6 @@ fn more(draw: impl Fn(Sizes, &mut Random) -> Case) -> impl Fn(Sizes, &mut Random
     }
 }
 
-/// A measurement of d1 up to the cap for all cells.
-fn wide_d1((n, k, l): Sizes, g: &mut Random) -> Case {
-    Case {
-        sheet: random(n, k, l, g),
-        call: Call::D1 { cap: WIDE_CAP },
-    }
-}
-
 /// The table, at n 7, n 32 and the largest n. Sheets with few codewords have words that no codeword is near to; d0 and d1 are more
 /// than the cap only where l, or r, is most of n.
 pub fn rows() -> Vec<Row> {
@@ -184,15 +176,15 @@ pub fn rows() -> Vec<Row> {
         rows.push(row(sizes, "admit", 64, admit));
         rows.push(row(sizes, "write", 64, write));
         rows.push(row(sizes, "read, radius 2, hit", 64, hit));
-        rows.push(row(sizes, "d0, cap 8", 8, d0));
-        rows.push(row(sizes, "d1, cap 8", 8, d1));
+        rows.push(row(sizes, "d0, cap 8", 8, d0(CAP)));
+        rows.push(row(sizes, "d1, cap 8", 8, d1(CAP)));
     }
     for sizes in [(7, 1, 0), (32, 8, 4), (WIDTH, WIDTH / 4, WIDTH / 8)] {
         rows.push(row(sizes, "read, radius 4, miss", 8, miss));
     }
-    rows.push(row((32, 2, 24), "d0, cap 8, more", 1, more(d0)));
-    rows.push(row((32, 4, 2), "d1, cap 8, more", 1, more(d1)));
-    rows.push(row((WIDTH, 8, 4), "d1, cap 5, more", 1, more(wide_d1)));
+    rows.push(row((32, 2, 24), "d0, cap 8, more", 1, more(d0(CAP))));
+    rows.push(row((32, 4, 2), "d1, cap 8, more", 1, more(d1(CAP))));
+    rows.push(row((WIDTH, 8, 4), "d1, cap 5, more", 1, more(d1(WIDE_CAP))));
     rows
 }
 

@@ -37,6 +37,9 @@ from .running import (
 )
 
 ROOM = 131071
+# The largest number that a place holds: of 32 bits, and of a word.
+MOST = str(2**32 - 1)
+MOST_WORD = str(2**64 - 1)
 
 
 @test("kitchen: its four lines")
@@ -142,17 +145,16 @@ def _():
 
 @test("console: the longest page and list of records, one more of either, and a page that fills the line")
 def _():
-    most = "4294967295"
     counted = lambda count, tokens: str(count) + (" " + tokens) * count
     told = lambda text: text.encode() + b"\n" + WORD
     asked = lambda text: text.encode() + b"\n" + WRITE
     for slots, records in ((2048, 256), (2049, 256), (2048, 257), (0, 257)):
-        page = counted(slots, most)
-        line = "pwrite %s %s %s %s 7 5" % (KITCHEN, most, page, counted(records, "%s %s 255" % (most, most)))
-        written = "word 85 d 0 page 2048%s 85%s" % ((" " + most) * 7, (" " + most) * 2040)
+        page = counted(slots, MOST_WORD)
+        line = "pwrite %s %s %s %s 7 5" % (KITCHEN, MOST, page, counted(records, "%s %s 255" % (MOST, MOST)))
+        written = "word 85 d 0 page 2048%s 85%s" % ((" " + MOST_WORD) * 7, (" " + MOST_WORD) * 2040)
         good(calls(asked(line)), told(written if (slots, records) == (2048, 256) else "refused 13 page " + page))
     for slots, wanted in ((2048, "refused 10 7"), (2049, "refused 13")):
-        good(calls(asked("pread %s %s %s 7 1" % (KITCHEN, most, counted(slots, most)))), told(wanted))
+        good(calls(asked("pread %s %s %s 7 1" % (KITCHEN, MOST, counted(slots, MOST_WORD)))), told(wanted))
     whole = lambda slots: "pwrite %s 0 %s 0 7 5" % (KITCHEN, counted(slots, "0"))
     slots = 10000 + (ROOM - len(whole(10000))) // 2
     good(calls(asked(whole(slots))), told("refused 13 page " + counted(slots, "0")))
@@ -161,15 +163,14 @@ def _():
 
 @test("console: rooms of the most entries and of one more, and tables that fill the line")
 def _():
-    most = "4294967295"
-    counted = lambda count: str(count) + (" " + most) * count
+    counted = lambda count: str(count) + (" " + MOST_WORD) * count
     told = lambda text: text.encode() + b"\n" + WORD
     asked = lambda text: text.encode() + b"\n" + WRITE
     for sizes in ((4096, 4096, 4096), (4097, 1, 1), (1, 4097, 1), (1, 1, 4097), (1, 0, 4096)):
         rooms = " P %s R %s Q %s" % tuple(counted(size) for size in sizes)
-        line = "totables %s %s" % (ATTIC, " ".join("%d %s" % (size, most) for size in sizes))
+        line = "totables %s %s" % (ATTIC, " ".join("%d %s" % (size, MOST_WORD) for size in sizes))
         good(calls(asked(line)), told("unknown" if 4097 in sizes else "refused 1" + rooms))
-    whole = lambda rows: "tosheet 1 1 0 %d%s 0 0 4096 %s" % (rows, " 0" * rows, most)
+    whole = lambda rows: "tosheet 1 1 0 %d%s 0 0 4096 %s" % (rows, " 0" * rows, MOST_WORD)
     rows = 10000 + (ROOM - len(whole(10000))) // 2
     good(calls(asked(whole(rows))), told("refused 1 room " + counted(4096)))
     good(calls(asked(whole(rows + 1))), told("unknown"))
@@ -193,6 +194,9 @@ def _():
         ("0 1 6 1431655766 0 0 0 0 5", "unknown"),
         ("0 4294967295 6 0 0 5", "unknown"),
         ("4294967296 1 6 0 0 5", "unknown"),
+        ("0 1 4294967296 0 0 5", "word 85 d 0 page 1 85"),
+        ("0 1 18446744073709551616 0 0 5", "unknown"),
+        ("0 1 6 1 0 4294967296 0 0 5", "unknown"),
     ):
         text += "pwrite %s %s\n" % (KITCHEN, arguments)
         wanted += answer + "\n"

@@ -28,11 +28,13 @@ unfoldable pub total : List ℕ → ℕ
 total [] = 0
 total (x ∷ xs) = x + total xs
 
+-- a number of the next line is one of this line and the one before it: `length-step`
 next-counts : (n v count : ℕ) → next (length (listed n v)) (counts n (suc v) count) ≡ counts (suc n) (suc v) count
 unfolding next counts
 next-counts n v zero = refl
 next-counts n v (suc count) = ap₂ (λ (x : ℕ) (xs : List ℕ). x ∷ xs) (sym (length-step n v)) (next-counts n (suc v) count)
 
+-- n lines on from the line of no cells is the line of n cells
 line-counts : (n count : ℕ) → line (counts 0 0 (suc count)) n ≡ counts n 0 (suc count)
 unfolding line next counts
 line-counts zero count = refl
@@ -40,6 +42,7 @@ line-counts (suc n) count =
     ap (next 0) (line-counts n count)
     ∙ ap₂ (λ (x : ℕ) (xs : List ℕ). x ∷ xs) (omega (arith, length-zero n, length-zero (suc n))) (next-counts n 0 count)
 
+-- the words of all the weights
 total-counts : (n v count : ℕ) → total (counts n v count) ≡ length (weights n v count)
 unfolding total counts
 total-counts n v zero = sym (weights-nil n v)

@@ -7,5 +7,6 @@ use denote.Plain.{UInt}
 abbrev pub ww : Width
 ww = w64
 
+-- and its values
 abbrev pub word : RattleType
 word = UInt ww

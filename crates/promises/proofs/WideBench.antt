@@ -2,19 +2,17 @@
 use mathlib.Core.Path.{_≡_, refl, sym, ap, ap₂, _∙_}
 use mathlib.Core.Logic.{⊎-elim}
 use mathlib.Core.List.{List, [], _∷_, _++_, map}
-use Prim.Native.Nat.{ℕ, zero, suc, _+_, _-_, _%_, _^_, _≤_, _<_}
+use Prim.Native.Nat.{ℕ, zero, suc, _+_, _-_, _%_, _^_, _<_}
 use native.Mathlib.Nat.{pow-suc}
 use native.Mathlib.Omega.{arith}
 use lib.Count.{ones, ones-ones}
-use lib.Dec.{eqb}
 use lib.ListN.{length}
 use lib.Pow.{pow-pos}
 use Rattle.paper.specs.First.{first}
-use Rattle.paper.specs.Listing.{found, listed, weights, search}
+use Rattle.paper.specs.Listing.{listed, weights, search}
 use Rattle.paper.specs.Plate.{D0, plateD0, plateD1, measuresD0}
-use Rattle.paper.specs.Reading.{heard, reads}
 use Rattle.paper.specs.Refusals.{Told, answer, more, refusal}
-use Rattle.paper.specs.Sheet.{Sheet, sheet, G0, H, M, judged, Admitted}
+use Rattle.paper.specs.Sheet.{Sheet, sheet, G0, judged, Admitted}
 use Rattle.paper.specs.Tables.{each, column, built, buildsSized, builds}
 use Rattle.paper.specs.Words.{cell, product, products, sum, _⊕_}
 use Rattle.paper.specs.Writing.{writesAdmitted, writes}
@@ -25,9 +23,9 @@ use Rattle.listing.proofs.Listed.{length-zero, weights-cons}
 use Rattle.listing.proofs.Lengths.{counts, next, line, total, list-length}
 use Rattle.sheet.proofs.Verdicts.{admitted-next}
 use Rattle.blocks.proofs.Lists.{getD-each}
-use Rattle.promises.proofs.Answers.{reads-on, measuresD0-on, measuresD1-on}
+use Rattle.promises.proofs.Answers.{measuresD0-on, measuresD1-on}
 use Rattle.promises.proofs.Bench.{write, read, d0, d1, outcome, Case, _gives_}
-use Rattle.promises.proofs.Computing.{counted, quick, quick-products, quick-nearest, quick-d0, quick-d1}
+use Rattle.promises.proofs.Computing.{counted, quick, quick-products, quick-d0, quick-d1, quick-reads}
 use Rattle.promises.proofs.Plate.{more-d0, measured-d0}
 use Rattle.promises.proofs.Tables.{build-admitted}
 
@@ -52,6 +50,7 @@ tower-admitted = build-admitted 64 62 1 (each 62 (λ i. 1)) ((2 ^ 62 - 1) ∷ []
 abbrev pub loft : Sheet
 loft = sheet 64 1 63 (1 ∷ each 63 (λ j. 1 + 2 ^ suc j) ++ (2 ^ 64 - 1) ∷ [])
 
+-- built of tables too
 loft-admitted : Admitted loft
 unfolding builds buildsSized built each column first sum _⊕_
 loft-admitted = build-admitted 64 1 63 (0 ∷ []) (each 63 (λ j. 1)) (each 63 (λ j. 0)) (each 65 (λ i. 0)) refl
@@ -108,13 +107,6 @@ cases =
     ∷ d0 (sheet 65 62 1 (0 ∷ rows)) 8 gives refusal 1 []
     ∷ []
 
--- what a read of the tower tells, found by the search that computes
-tower-reads : (y t z tried : ℕ) → y < 2 ^ 64 → t ≤ 4 → search (λ u. eqb (quick (H tower) (y ⊕ u)) 0) 0 (weights 64 0 (t + 1)) ≡ found z tried
-    → reads tower y t ≡ answer (quick (M tower) (y ⊕ z) ∷ z ∷ tried ∷ [])
-tower-reads y t z tried low few e =
-    reads-on tower tower-admitted y t low few ∙ ap (heard tower y) (quick-nearest tower y t ∙ e)
-    ∙ ap (λ (m : ℕ). answer (m ∷ z ∷ tried ∷ [])) (quick-products (M tower) (y ⊕ z))
-
 -- every row of the table holds
 pub wide-bench : map (λ (row : Case). outcome (row .call)) cases ≡ map (λ (row : Case). row .told) cases
 unfolding outcome _gives_ cases writes writesAdmitted judged measuresD0 first weights listed search quick counted each sum _⊕_ ones
@@ -122,8 +114,8 @@ wide-bench =
     row (admitted-next tower tower-admitted (writesAdmitted tower (2 ^ 61) 0 0))
     (row (admitted-next tower tower-admitted (writesAdmitted tower (2 ^ 61) (2 ^ 63) 0))
     (row (admitted-next tower tower-admitted (writesAdmitted tower (2 ^ 62) 0 0))
-    (row (tower-reads 11529215046068469761 1 1 2 (omega arith) (omega arith) refl)
-    (row (tower-reads 6917529027641081855 0 0 1 (omega arith) (omega arith) refl)
+    (row (quick-reads tower tower-admitted 11529215046068469761 1 1 2 (omega arith) (omega arith) refl)
+    (row (quick-reads tower tower-admitted 6917529027641081855 0 0 1 (omega arith) (omega arith) refl)
     (row (measuresD0-on tower tower-admitted 8 (omega arith) (omega arith) ∙ ap plateD0 (quick-d0 tower 8))
     (row (measuresD1-on tower tower-admitted 8 (omega arith) (omega arith) ∙ ap (plateD1 8) (quick-d1 tower 8))
     (row (measuresD0-on tower tower-admitted 1 (omega arith) (omega arith) ∙ ap plateD0 (quick-d0 tower 1)) (row loft-tried (row refl refl)))))))))
