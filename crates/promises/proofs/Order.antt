@@ -1,8 +1,8 @@
 -- "Each refusal is given exactly when its reason holds and no earlier one in the call's order does": each number from both sides,
 -- 1 to 6 of admission and alike of every call, then 7 to 12. For demand 1's numbered refusals and demand 2's "only if". Assumes nothing.
 use mathlib.Core.Path.{_≡_, refl, sym, ap}
-use mathlib.Core.Bool.{Bool, true, false, _&&_, true≢false}
-use mathlib.Core.Logic.{_⊎_, inl, inr, _↔_, Iff·rfl}
+use mathlib.Core.Bool.{true, false}
+use mathlib.Core.Logic.{_⊎_, _↔_, Iff·rfl}
 use mathlib.Core.List.{List, [], _∷_}
 use Prim.Native.Nat.{ℕ, _+_, _^_, _≤_, _<_}
 use native.Mathlib.Nat.{zero-add}
@@ -18,10 +18,10 @@ use Rattle.paper.specs.Writing.{wordOf, fits, misplaced, fitting, chosen, write
 use Rattle.paper.specs.Reading.{mostRadius, strayCell, nearest, heard, readsAdmitted, reads}
 use Rattle.paper.specs.Plate.{mostCap, searchD0, searchD1, plateD0, plateD1, capped, measuresAdmittedD0, measuresAdmittedD1, measuresD0, measuresD1}
 use Rattle.words.proofs.Firsts.{none-below, first-all}
+use Rattle.rules.proofs.Both.{outside}
 use Rattle.rules.proofs.Rules.{isRefusal, ofSheet, not-told, either, either-at, past, past-at, own, own-at}
 use Rattle.rules.proofs.Chains.{then-1, then-2, then-3, last-3}
 use Rattle.sheet.proofs.Verdicts.{stray-row, code-row, message-row, G0-row, H-row, past-judged, sheet-told}
-use Rattle.measuring.proofs.Caps.{capped-true}
 use Rattle.promises.proofs.Answers.{write-told, read-told}
 
 -- ---- 1 to 6: "the row given is the first row in sheet order at which the rule breaks; a rule is tried on all rows before the next rule"
@@ -112,20 +112,6 @@ module _ (s : Sheet) where
 
 -- ---- 7 to 12
 
--- 11: "cap 0 or above 8"
-uncapped : (cap : ℕ) → (capped cap ≡ false) ↔ ((cap ≡ 0) ⊎ (mostCap < cap))
-uncapped cap = (λ e. to (leb 1 cap) (leb cap mostCap) refl refl e, from (capped cap) refl)
-  where
-    to : (a b : Bool) → leb 1 cap ≡ a → leb cap mostCap ≡ b → (a && b) ≡ false → (cap ≡ 0) ⊎ (mostCap < cap)
-    to true true p q e = absurd (true≢false e)
-    to true false p q e = inr (leb-false cap mostCap q)
-    to false b p q e = inl (omega (arith, leb-false 1 cap p))
-
-    from : (b : Bool) → capped cap ≡ b → (cap ≡ 0) ⊎ (mostCap < cap) → capped cap ≡ false
-    from false e h = e
-    from true e (inl p) = absurd (omega (arith, capped-true cap .0 e))
-    from true e (inr p) = absurd (omega (arith, capped-true cap .0 e))
-
 -- 9: "no word of the message fits"
 pub unchosen : (s : Sheet) (w stuck levels : ℕ)
     → (chosen s w (fitting s w stuck levels) ≡ refusal 9 [])
@@ -137,7 +123,7 @@ unchosen s w stuck levels = (λ e d. first-all _ (2 ^ s .l) d (none (fitting s w
     none (at d) e = not-told (sym e) refl
 
 -- 12: "no codeword within the radius"
-unheard : (s : Sheet) (y : ℕ) (f : Search) (tried : ℕ) → (heard s y f ≡ refusal 12 (tried ∷ [])) ↔ (f ≡ missed tried)
+pub unheard : (s : Sheet) (y : ℕ) (f : Search) (tried : ℕ) → (heard s y f ≡ refusal 12 (tried ∷ [])) ↔ (f ≡ missed tried)
 unheard s y (found z u) tried = (λ e. not-told (sym e) refl, λ e. let z : _≡_ {A = ℕ} 0 1 = cc in absurd (omega arith))
 unheard s y (missed u) tried = (λ e. cc, λ e. cc)
 
@@ -192,13 +178,13 @@ module _ (s : Sheet) where
 
   module _ (y radius : ℕ) where
     -- what is told of a read from rule 12 and from rule 11 on
-    abbrev from-12 : Told
+    abbrev pub from-12 : Told
     from-12 = heard s y (nearest s y radius)
 
     abbrev from-11 : Told
     from-11 = unless (leb radius mostRadius) 11 from-12
 
-    either-12 : (P : Told → Type 0) → ((given : List ℕ) → P (refusal 12 given)) → ((values : List ℕ) → P (answer values)) → P from-12
+    pub either-12 : (P : Told → Type 0) → ((given : List ℕ) → P (refusal 12 given)) → ((values : List ℕ) → P (answer values)) → P from-12
     either-12 P r v = go (nearest s y radius)
       where
         go : (f : Search) → P (heard s y f)
@@ -209,7 +195,7 @@ module _ (s : Sheet) where
     either-11 P l r v = either 11 from-12 P (leb radius mostRadius) l (either-12 P r v)
 
     -- and of a read on an admitted sheet
-    pub either-10 : (P : Told → Type 0) → ((given : List ℕ) → P (refusal 10 given)) → P (refusal 11 []) → ((given : List ℕ) → P (refusal 12 given))
+    either-10 : (P : Told → Type 0) → ((given : List ℕ) → P (refusal 10 given)) → P (refusal 11 []) → ((given : List ℕ) → P (refusal 12 given))
         → ((values : List ℕ) → P (answer values)) → P (readsAdmitted s y radius)
     unfolding readsAdmitted
     either-10 P c l r v = either-at 10 from-11 P (first width (strayCell (s .n) y)) 0 c (either-11 P l r v)
@@ -264,10 +250,10 @@ module _ (s : Sheet) where
   unfolding measuresD0 measuresAdmittedD0
   measure-d0-11 cap =
       then-1 (past-judged s _ (refusal 11 []) refl)
-      (own 11 _ (capped cap) (uncapped cap) (plateD0-answers (λ t. isRefusal 11 t ≡ false) (λ v. refl) (λ v. refl) (searchD0 s cap)))
+      (own 11 _ (capped cap) (outside mostCap cap) (plateD0-answers (λ t. isRefusal 11 t ≡ false) (λ v. refl) (λ v. refl) (searchD0 s cap)))
 
   pub measure-d1-11 : (cap : ℕ) → (measuresD1 s cap ≡ refusal 11 []) ↔ (Admitted s × ((cap ≡ 0) ⊎ (mostCap < cap)))
   unfolding measuresD1 measuresAdmittedD1
   measure-d1-11 cap =
       then-1 (past-judged s _ (refusal 11 []) refl)
-      (own 11 _ (capped cap) (uncapped cap) (plateD1-answers (λ t. isRefusal 11 t ≡ false) (λ v. refl) (λ v. refl) cap (searchD1 s cap)))
+      (own 11 _ (capped cap) (outside mostCap cap) (plateD1-answers (λ t. isRefusal 11 t ≡ false) (λ v. refl) (λ v. refl) cap (searchD1 s cap)))

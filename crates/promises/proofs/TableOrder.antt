@@ -16,7 +16,7 @@ use Rattle.paper.specs.Refusals.{Told, answer, refusal, unless, unlessAt}
 use Rattle.paper.specs.Sheet.{Sheet, sheet, shaped, admits, Admitted}
 use Rattle.paper.specs.Tables.{tabled, strayIn, buildsSized, builds, tableP, tableR, tableQ, systematic, givesAdmitted, gives}
 use Rattle.words.proofs.Firsts.{none-below}
-use Rattle.rules.proofs.Chains.{then-1}
+use Rattle.rules.proofs.Chains.{then-1, or-else}
 use Rattle.rules.proofs.Rules.{isRefusal, ofSheet, either, either-at, past, past-at, own, own-or, own-at-or}
 use Rattle.sheet.proofs.Verdicts.{sound, shaped-facts, past-judged, sheet-told}
 use Rattle.blocks.proofs.Counts.{counted, tabled-counted}
@@ -71,15 +71,8 @@ module _ (n k l : ℕ) (P R Q room : List ℕ) where
   unfolding builds buildsSized
   build-2 row =
       then-1 (past 1 from-P sizes Iff·rfl (refusal 2 (row ∷ [])) refl)
-      (or-else (own-at-or 2 from-R stray-P 0 row) in-P (or-else (own-at-or 2 from-Q stray-R k row) Iff·rfl in-Q))
+      (or-else (own-at-or 2 from-R stray-P 0 row) in-P Iff·rfl (or-else (own-at-or 2 from-Q stray-R k row) Iff·rfl Iff·rfl in-Q))
     where
-      -- what this rule or a later one tells, made plain
-      or-else : {A A′ B C C′ X : Type 0} → X ↔ (A ⊎ (B × C)) → A ↔ A′ → C ↔ C′ → X ↔ (A′ ⊎ (B × C′))
-      or-else i a c = (
-        λ x. elim (i .0 x) [ inl p ↦ inl (a .0 p) | inr q ↦ inr (q .0, c .0 (q .1)) ],
-        λ y. i .1 (elim y [ inl p ↦ inl (a .1 p) | inr q ↦ inr (q .0, c .1 (q .1)) ]),
-      )
-
       -- P's rows are counted from 0
       in-P : ((i : ℕ) × (stray-P ≡ at i) × (0 + i ≡ row)) ↔ (stray-P ≡ at row)
       in-P = (λ q. q .1 ∙ ap at (sym (zero-add (q .0)) ∙ q .2), λ e. (row, e, zero-add row))

@@ -3,4 +3,5 @@ pub mod Rules
 pub mod Chains
 pub mod Stages
 pub mod Reasons
+pub mod Both
 pub mod Rooms

@@ -1,12 +1,15 @@
 -- A chain of rules as one: it refuses whatever comes next, or passes to it. So a refusal by rules that several calls share is told alike by each.
--- For the sheet's six rules, which every call begins with. Assumes nothing.
-use mathlib.Core.Path.{_≡_, refl, sym, _∙_}
+-- For the rules that calls begin with: the sheet's six, a page's, a read's. Assumes nothing.
+use mathlib.Core.Path.{_≡_, refl, sym, ap, _∙_}
 use mathlib.Core.Bool.{Bool, true, false}
 use mathlib.Core.List.{List, [], _∷_}
 use Prim.Native.Nat.{ℕ, _+_}
 use native.Mathlib.Omega.{arith}
 use Rattle.paper.specs.First.{First, nowhere, at}
-use Rattle.paper.specs.Refusals.{Told, answer, refusal, unless, unlessAt}
+use Rattle.paper.specs.Refusals.{Told, answer, refusal, refused, admission, unless, unlessAt}
+use Rattle.paper.specs.declared.Admission.{Admission}
+use Rattle.paper.specs.declared.Admission.the-variants as Admission
+use Rattle.paper.specs.declared.Refusal.{Refusal}
 
 -- rules that refuse whatever comes next, or pass to it
 pub data Stage (f : Told → Told) : Type 0 where
@@ -43,3 +46,11 @@ pub alike-refused : {f : Told → Told} → Stage f → {number : ℕ} {given : 
     → f next ≡ refusal number given → f (answer []) ≡ refusal number given
 alike-refused (passes p) next other e = absurd (other (sym (p next) ∙ e))
 alike-refused (refuses m g p) next other e = p (answer []) ∙ sym (p next) ∙ e
+
+-- verdict is what the code was told of a chain: a refusal is the call's answer, and else the call tells what comes next
+module _ {f : Told → Told} (stage : Stage f) (verdict : Admission) (e : admission verdict ≡ f (answer [])) where
+  pub told-refused : (why : Refusal) (next : Told) → verdict ≡ Admission.Refused why → refused why ≡ f next
+  told-refused why next h = sym (refused-alike stage (sym (ap admission (sym h) ∙ e)) next)
+
+  pub told-next : verdict ≡ Admission.Admitted → (next : Told) {told : Told} → told ≡ next → told ≡ f next
+  told-next h next q = q ∙ sym (passed-alike stage (sym e ∙ ap admission h) next)

@@ -14,9 +14,8 @@ use lib.Pow.{pow-lt}
 use lib.Seq.{getD-take, getD-drop}
 use Rattle.paper.specs.First.{First, nowhere, first}
 use Rattle.paper.specs.Words.{width, cell, product, products}
-use Rattle.paper.specs.Refusals.{Told, answer, refusal, refused}
+use Rattle.paper.specs.Refusals.{Told, answer, refusal}
 use Rattle.paper.specs.Sheet.{Sheet, r, G1, G0, H, M, G, shaped, stray, wanted, off, offCode, offMessage, dependent, judgedSums, judgedRows, judged, admits, Admitted}
-use Rattle.paper.specs.declared.Refusal.{Refusal}
 use Rattle.words.proofs.Cells.{ext, no-cell, cell-unit, cell-unit-other}
 use Rattle.words.proofs.Products.{product-comm, cell-products, products-lt}
 use Rattle.words.proofs.Firsts.{first-all, any-all}
@@ -99,10 +98,6 @@ pub sheet-told : (s : Sheet) (next : Told) → ofSheet next ≡ false → (numbe
     → (judged s next ≡ refusal number given) ↔ (admits s ≡ refusal number given)
 sheet-told s next late number given h =
     (alike-refused (judged-stage s) next (λ e. not-told (sym e) (not-of-sheet number next h late)), λ e. refused-alike (judged-stage s) e next)
-
--- the code's way: the reason that admission gave is the call's answer
-pub refused-call : (s : Sheet) (why : Refusal) → refused why ≡ admits s → (next : Told) → refused why ≡ judged s next
-refused-call s why e next = sym (refused-alike (judged-stage s) (sym e) next)
 
 -- what is told alike of an admitted sheet is told alike of any other, whose refusal comes first
 pub on-admitted : (s : Sheet) (a b : Told) → (Admitted s → judged s a ≡ judged s b) → judged s a ≡ judged s b
