@@ -82,12 +82,6 @@ pub fn line_text(verb: &str, sheet: &Sheet, arguments: &[Word]) -> String {
     numbers_text(verb, &[&head, &list(&sheet.rows)[..], arguments].concat())
 }
 
-/// Any number of 32 bits: a small one, the largest, or any at all.
-pub fn some_number(random: &mut Random) -> u32 {
-    let any = random.number();
-    random.one_of(&[0, 1, 3, 9, 10, u32::MAX, any])
-}
-
 /// Any word: a small one, one at the edge of 32 bits, the largest, or any at all.
 pub fn some_word(random: &mut Random) -> Word {
     let any = random.word(MOST_CELLS);

@@ -18,6 +18,7 @@ pub enum Answer {
     Message { message: Word, z: Word, tried: u64 },
     D0(Measured),
     D1 { measured: Measured, radius: u32 },
+    Number(u32),
     Done,
 }
 
@@ -71,10 +72,15 @@ fn eliminated_d(parts: &Parts, plain: Word, stuck: Word, levels: Word) -> Option
     smallest_d(parts.g0.len(), &equations)
 }
 
-/// Reading: the first z in the list, of weight at most the radius, for which y + z is a
-/// codeword; refusals 10, 11 and 12 after those of the sheet.
+/// Reading: the nearest codeword's message; refusals 10, 11 and 12 after those of the sheet.
 pub fn read(sheet: &Sheet, y: Word, radius: u32) -> Result<Answer, Refusal> {
     let parts = admit(sheet)?;
+    readable(&parts, y, radius)?;
+    nearest(&parts, y, radius)
+}
+
+/// Refusal 10, a bit of y at cell n or above, and then 11, a radius above 4.
+pub fn readable(parts: &Parts, y: Word, radius: u32) -> Result<(), Refusal> {
     let stray = y & above(parts.n);
     if stray != 0 {
         return Err(placed(10, stray.trailing_zeros()));
@@ -82,11 +88,17 @@ pub fn read(sheet: &Sheet, y: Word, radius: u32) -> Result<Answer, Refusal> {
     if radius > 4 {
         return Err(bare(11));
     }
+    Ok(())
+}
+
+/// The first z in the list, of weight at most the radius, for which y + z is a codeword, or
+/// refusal 12; y and radius are readable ones.
+pub fn nearest(parts: &Parts, y: Word, radius: u32) -> Result<Answer, Refusal> {
     let mut tried = 0;
     for z in listed(parts.n, 0, radius) {
         tried += 1;
-        if is_codeword(&parts, y ^ z) {
-            let message = message_of(&parts, y ^ z);
+        if is_codeword(parts, y ^ z) {
+            let message = message_of(parts, y ^ z);
             return Ok(Answer::Message { message, z, tried });
         }
     }
@@ -103,19 +115,22 @@ pub fn d0(sheet: &Sheet, cap: u32) -> Result<Answer, Refusal> {
     Ok(Answer::D0(measured))
 }
 
-/// d1: "the least weight of a codeword with a message other than 0", and the radius for
-/// the plate by document 02, request 3: half of d1 - 1, or half of the cap where d1 is
-/// more than the cap, rounded down.
+/// d1, and the radius for the plate by document 02, request 3: half of d1 - 1, or half of
+/// the cap where d1 is more than the cap, rounded down.
 pub fn d1(sheet: &Sheet, cap: u32) -> Result<Answer, Refusal> {
-    let parts = admit(sheet)?;
-    let measured = measure(&parts, cap, |word| {
-        is_codeword(&parts, word) && message_of(&parts, word) != 0
-    })?;
+    let measured = measured_d1(&admit(sheet)?, cap)?;
     let radius = match measured.distance {
         Some(distance) => (distance - 1) / 2,
         None => cap / 2,
     };
     Ok(Answer::D1 { measured, radius })
+}
+
+/// The measurement of d1: "the least weight of a codeword with a message other than 0".
+pub fn measured_d1(parts: &Parts, cap: u32) -> Result<Measured, Refusal> {
+    measure(parts, cap, |word| {
+        is_codeword(parts, word) && message_of(parts, word) != 0
+    })
 }
 
 /// "A measurement takes a cap of 1 to 8 and tries listed words from weight 1 up to the

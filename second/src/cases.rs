@@ -1,10 +1,11 @@
-//! Cases repeatable from a seed: good calls, on pages, about tables and neither, calls with
-//! broken sheets or odd arguments, and lines that are no calls.
+//! Cases repeatable from a seed: good calls, on pages, to open them, about tables and others,
+//! calls with broken sheets or odd arguments, and lines that are no calls.
 
 use crate::asking::{any_call, call_text, far_sheet, good_call, Verb};
 use crate::breaking::broken_sheet;
 use crate::making::some_sheet;
 use crate::noise::noise_line;
+use crate::opening::{big_open_call, open_call};
 use crate::paging::page_call;
 use crate::random::Random;
 use crate::tabling::table_call;
@@ -12,7 +13,7 @@ use crate::taming::highest_cap;
 use crate::word::Word;
 use std::io::{self, Write};
 
-/// One call in so many is a measurement that may go through millions of words.
+/// One call in so many measures, and may go through millions of words.
 const BIG_EVERY: u64 = 2_000;
 
 /// Prints so many lines.
@@ -30,30 +31,31 @@ pub fn print_cases(seed: u64, count: u64, mut output: impl Write) -> io::Result<
     output.flush()
 }
 
-/// One line of any kind; of the calls one in eight is about tables, and of the others one
-/// in three is a page call.
+/// One line of any kind; of the calls one in eight is about tables, one in thirty opens a
+/// page, and of the others one in three is a page call.
 fn case_line(random: &mut Random) -> Vec<u8> {
     let paged = random.once_in(3);
     match random.below(100) {
         0..=8 => noise_line(random),
         9..=19 => table_call(random).into_bytes(),
-        20..=41 if paged => {
+        20..=22 => open_call(random).into_bytes(),
+        23..=43 if paged => {
             let sheet = broken_sheet(random);
             let odd = random.once_in(3);
             page_call(random, &sheet, odd).into_bytes()
         }
-        42..=99 if paged => {
+        44..=99 if paged => {
             let sheet = some_sheet(random);
             let odd = random.once_in(2);
             page_call(random, &sheet, odd).into_bytes()
         }
-        20..=41 => {
+        23..=43 => {
             let sheet = broken_sheet(random);
             let verb = random.one_of(&Verb::ALL);
             let odd = random.once_in(3);
             any_call(random, verb, &sheet, odd).into_bytes()
         }
-        42..=57 => {
+        44..=58 => {
             let sheet = some_sheet(random);
             let verb = random.one_of(&Verb::ALL[1..]);
             any_call(random, verb, &sheet, true).into_bytes()
@@ -63,8 +65,11 @@ fn case_line(random: &mut Random) -> Vec<u8> {
 }
 
 /// A measurement of a far distance on 26 to 64 cells, at a cap of at most 8 and as high as
-/// the longest list allows, or up to 2 lower.
+/// the longest list allows, or up to 2 lower; one in three opens a page.
 fn big_measurement(random: &mut Random) -> String {
+    if random.once_in(3) {
+        return big_open_call(random);
+    }
     let verb = random.one_of(&[Verb::D0, Verb::D1]);
     let (narrow, wide) = (random.between(26, 32), random.between(33, 64));
     let n = random.one_of(&[narrow, wide]);
@@ -93,14 +98,17 @@ mod tests {
     }
 
     /// No call goes through a list that is longer than any may be, and few go through one
-    /// that is longer than the rule has it.
+    /// that is longer than the rule has it. Opening a page goes through that of d1 at cap 8.
     #[test]
     fn lists_gone_through() {
         let mut output = Vec::new();
         print_cases(3, 4_000, &mut output).expect("cases");
         let lines = output.split(|byte| *byte == b'\n');
         let length = |line: &[u8]| -> Option<u64> {
-            let answer = answer_line(line)?;
+            let answer = match line.strip_prefix(b"open ") {
+                Some(sheet) => answer_line(&[b"d1 ", sheet, b" 8"].concat())?,
+                None => answer_line(line)?,
+            };
             let (_, after) = answer
                 .rsplit_once("tried ")
                 .or(answer.split_once("refused 12 "))?;

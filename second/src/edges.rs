@@ -32,12 +32,13 @@ const PICKED: [Place; 9] = [
 
 /// The verbs and the shapes of their calls, a letter for each part: `w` a word, `n` another
 /// number, `S` a sheet, `L` a list of words, `R` records, `M` a room.
-const SHAPES: [(&str, &str); 9] = [
+const SHAPES: [(&str, &str); 10] = [
     ("admit", "S"),
     ("write", "Swww"),
     ("read", "Swn"),
     ("d0", "Sn"),
     ("d1", "Sn"),
+    ("open", "S"),
     ("pwrite", "SnLRnw"),
     ("pread", "SnLnn"),
     ("tosheet", "nnnLLLM"),
@@ -110,6 +111,7 @@ mod tests {
     use super::*;
     use crate::asking::good_call;
     use crate::lines::{answer_line, MOST_OF_A_ROOM};
+    use crate::opening::good_open_call;
     use crate::paging::good_page_call;
     use crate::tabling::good_table_call;
     use crate::tokens::tokens_of;
@@ -130,8 +132,9 @@ mod tests {
     fn edges_of_places() {
         let mut random = Random::new(92);
         let mut times = [[0; 2]; 5];
-        for turn in 0..6000 {
-            let make = [good_call, good_page_call, good_table_call][turn % 3];
+        let makers = [good_call, good_page_call, good_table_call, good_open_call];
+        for turn in 0..12_000 {
+            let make = makers[turn % 4];
             let tokens = tokens_of(make(&mut random));
             let line = edge_line(&mut random, tokens.clone());
             let changed = tokens_of(String::from_utf8(line.clone()).expect("text"));

@@ -1,7 +1,7 @@
 //! The line protocol: a call from a line, an answer to a line.
 
 use crate::calls::{admitting, d0, d1, read, write, Answer, Measured};
-use crate::page::{page_read, page_write, Record};
+use crate::page::{open, page_read, page_write, Record};
 use crate::sheet::{Refusal, Sheet};
 use crate::tables::{to_sheet, to_tables};
 use crate::word::Word;
@@ -67,6 +67,7 @@ fn answer_call(line: &[u8]) -> Option<String> {
         (b"read", [y, radius]) => read(&sheet, *y, narrow(*radius)?),
         (b"d0", [cap]) => d0(&sheet, narrow(*cap)?),
         (b"d1", [cap]) => d1(&sheet, narrow(*cap)?),
+        (b"open", []) => open(&sheet),
         (b"pread", rest) => page_reading(&sheet, rest)?,
         (b"pwrite", rest) => return page_writing(&sheet, rest),
         (b"totables", rest) => return giving_tables(&sheet, rest),
@@ -75,27 +76,29 @@ fn answer_call(line: &[u8]) -> Option<String> {
     Some(result_text(result))
 }
 
-/// `pread` after the sheet: the number, which is not looked at, the page, slot and radius.
+/// `pread` after the sheet: the plate number, the page, slot and radius.
 fn page_reading(sheet: &Sheet, numbers: &[Word]) -> Option<Result<Answer, Refusal>> {
-    let (_, rest) = narrow_and_rest(numbers)?;
+    let (number, rest) = narrow_and_rest(numbers)?;
     let (page, rest) = list_and_rest(rest)?;
     let [slot, radius] = rest else {
         return None;
     };
-    Some(page_read(sheet, page, narrow(*slot)?, narrow(*radius)?))
+    let (slot, radius) = (narrow(*slot)?, narrow(*radius)?);
+    Some(page_read(sheet, number, page, slot, radius))
 }
 
-/// `pwrite` after the sheet: the number, which is not looked at, the page, the records, slot
-/// and message. Its answer, also a refusal, ends with the page as it is after the call.
+/// `pwrite` after the sheet: the plate number, the page, the records, slot and message. Its
+/// answer, also a refusal, ends with the page as it is after the call.
 fn page_writing(sheet: &Sheet, numbers: &[Word]) -> Option<String> {
-    let (_, rest) = narrow_and_rest(numbers)?;
+    let (number, rest) = narrow_and_rest(numbers)?;
     let (page, rest) = list_and_rest(rest)?;
     let (records, rest) = records_and_rest(rest)?;
     let [slot, message] = rest else {
         return None;
     };
     let mut page = page.to_vec();
-    let result = page_write(sheet, &mut page, &records, narrow(*slot)?, *message);
+    let slot = narrow(*slot)?;
+    let result = page_write(sheet, number, &mut page, &records, slot, *message);
     Some(lent_text(result, ["page"], &[page]))
 }
 
@@ -250,6 +253,7 @@ fn answer_text(answer: Answer) -> String {
         Answer::Message { message, z, tried } => format!("message {message} z {z} tried {tried}"),
         Answer::D0(measured) => measured_text(measured),
         Answer::D1 { measured, radius } => format!("{} radius {radius}", measured_text(measured)),
+        Answer::Number(number) => format!("number {number}"),
         Answer::Done => "done".to_string(),
     }
 }

@@ -1,5 +1,5 @@
 //! The second program: it answers the calls of the name store on its own, straight from
-//! the definitions of document 01 and requests 1, 3, 4 and 5, and makes cases on which the
+//! the definitions of document 01 and requests 1 and 3 to 6, and makes cases on which the
 //! two are compared.
 
 mod asking;
@@ -12,6 +12,7 @@ mod lines;
 mod listing;
 mod making;
 mod noise;
+mod opening;
 mod page;
 mod paging;
 mod random;

@@ -5,7 +5,7 @@
 
 use crate::random::Random;
 use crate::sheet::{Sheet, Tables};
-use crate::word::{column, sum_of, Word, MOST_CELLS};
+use crate::word::{all_ones, column, sum_of, Word, MOST_CELLS};
 
 /// The four groups of rows of a sheet in the making.
 struct Groups {
@@ -29,14 +29,16 @@ pub fn random_sheet(random: &mut Random) -> Sheet {
 pub fn shaped_sheet(random: &mut Random) -> Sheet {
     let (n, k, l) = random_numbers(random);
     let steps = random.one_of(&[0, 1, 4 * n]);
-    stepped(random, [n, k, l], steps, mix_checks)
+    let tables = random_tables(random, n, k, l);
+    stepped(random, [n, k, l], &tables, steps, mix_checks)
 }
 
 /// A random admitted sheet that is few steps from its first form.
 pub fn near_sheet(random: &mut Random) -> Sheet {
     let (n, k, l) = random_numbers(random);
     let steps = random.between(1, 3);
-    stepped(random, [n, k, l], steps, mix)
+    let tables = random_tables(random, n, k, l);
+    stepped(random, [n, k, l], &tables, steps, mix)
 }
 
 /// A bench sheet now and then, else a random admitted one.
@@ -45,6 +47,7 @@ pub fn some_sheet(random: &mut Random) -> Sheet {
         0 | 1 => kitchen(),
         2 => attic(),
         3 => tower(),
+        4 => cellar(),
         _ => random_sheet(random),
     }
 }
@@ -63,12 +66,27 @@ pub fn attic() -> Sheet {
     Sheet { n, k, l, rows }
 }
 
+/// The cellar sheet, with d1 = 4: the kitchen sheet and a cell of parity.
+pub fn cellar() -> Sheet {
+    let rows = vec![177, 210, 228, 255, 27, 45, 78, 135, 9, 10, 12];
+    let (n, k, l) = (8, 3, 1);
+    Sheet { n, k, l, rows }
+}
+
 /// The tower sheet: 64 cells, 62 bits of a message, and all ones as the row of G0 and of H.
 pub fn tower() -> Sheet {
     let (n, k, l) = (64, 62, 1);
     let units_and = |cell: u32| (0..k).map(move |i| 1 << i | 1 << cell);
     let ones = [Word::MAX; 2];
     let rows = units_and(63).chain(ones).chain(units_and(62)).collect();
+    Sheet { n, k, l, rows }
+}
+
+/// The sheet of n cells with two codewords, all zeros and all ones: d1 is n.
+pub fn repeating(n: u32) -> Sheet {
+    let checks = (1..n).map(|cell| 3 << (cell - 1));
+    let rows = [all_ones(n)].into_iter().chain(checks).chain([1]).collect();
+    let (k, l) = (1, 0);
     Sheet { n, k, l, rows }
 }
 
@@ -101,19 +119,27 @@ pub fn random_numbers(random: &mut Random) -> (u32, u32, u32) {
 
 /// A random admitted sheet with these numbers.
 pub fn sheet_of_numbers(random: &mut Random, n: u32, k: u32, l: u32) -> Sheet {
+    let tables = random_tables(random, n, k, l);
+    sheet_of_tables(random, [n, k, l], &tables)
+}
+
+/// A random admitted sheet that begins with these tables for n, k and l. It has the code
+/// that they give, but for the order of the cells.
+pub fn sheet_of_tables(random: &mut Random, nkl: [u32; 3], tables: &Tables) -> Sheet {
+    let n = nkl[0];
     let steps = random.one_of(&[0, n, 4 * n, 8 * n]);
-    let mut sheet = stepped(random, [n, k, l], steps, mix);
+    let mut sheet = stepped(random, nkl, tables, steps, mix);
     if !random.once_in(6) {
         permute_cells(random, n, &mut sheet.rows);
     }
     sheet
 }
 
-/// A sheet with these n, k and l that has gone so many steps from its first form.
-fn stepped(random: &mut Random, nkl: [u32; 3], steps: u32, step: Step) -> Sheet {
+/// A sheet with these n, k and l that has gone so many steps from the first form of these
+/// tables.
+fn stepped(random: &mut Random, nkl: [u32; 3], tables: &Tables, steps: u32, step: Step) -> Sheet {
     let [n, k, l] = nkl;
-    let tables = random_tables(random, n, k, l);
-    let mut groups = systematic(n, k, l, &tables);
+    let mut groups = systematic(n, k, l, tables);
     for _ in 0..steps {
         step(random, &mut groups);
     }
@@ -222,74 +248,4 @@ fn permute_cells(random: &mut Random, n: u32, rows: &mut [Word]) {
 }
 
 #[cfg(test)]
-mod tests {
-    use super::*;
-    use crate::sheet::{admit, bare};
-    use crate::tables::{to_sheet, to_tables};
-
-    /// Every sheet made is admitted, and every n, l = 0, r = 0, k = 32 and k = 64 come up;
-    /// about every second one has at most 32 cells.
-    #[test]
-    fn made_sheets_are_admitted() {
-        let mut random = Random::new(31);
-        let mut seen = [0; 65];
-        let (mut no_l, mut no_r, mut widest) = (0, 0, [0; 2]);
-        for _ in 0..5000 {
-            let sheet = some_sheet(&mut random);
-            assert!(admit(&sheet).is_ok(), "{sheet:?}");
-            seen[sheet.n as usize] += 1;
-            no_l += u32::from(sheet.l == 0);
-            no_r += u32::from(sheet.k + sheet.l == sheet.n);
-            widest[0] += u32::from((sheet.n, sheet.k) == (32, 32));
-            widest[1] += u32::from((sheet.n, sheet.k) == (64, 64));
-        }
-        assert!(seen[1..].iter().all(|times| *times > 0), "{seen:?}");
-        assert!(seen[63] > 100 && seen[64] > 400, "{seen:?}");
-        let narrow: u32 = seen[..=32].iter().sum();
-        assert!((2300..2900).contains(&narrow), "{narrow}");
-        assert!(no_l > 0 && no_r > 0 && widest[0] > 0 && widest[1] > 0);
-    }
-
-    /// The first form of a sheet, made from whole words, is the one that the call makes
-    /// entry by entry.
-    #[test]
-    fn first_form_is_that_of_the_call() {
-        let mut random = Random::new(32);
-        for _ in 0..3000 {
-            let (n, k, l) = random_numbers(&mut random);
-            let tables = random_tables(&mut random, n, k, l);
-            let form = systematic(n, k, l, &tables);
-            let mut room = vec![Word::MAX; (n + k) as usize];
-            assert!(to_sheet([n, k, l], &tables, &mut room).is_ok());
-            assert_eq!(room, [form.g1, form.g0, form.h, form.m].concat());
-        }
-    }
-
-    /// Sheets that keep the shape of G1 and G0 give tables, though many have another H or
-    /// M; of those few steps from it most give none, and some do. All are admitted.
-    #[test]
-    fn sheets_of_the_shape_and_near_it() {
-        let mut random = Random::new(33);
-        let gives = |sheet: &Sheet| {
-            let mut rooms = [sheet.k, sheet.l, sheet.l].map(|size| vec![0; size as usize]);
-            match to_tables(sheet, &mut rooms) {
-                Ok(_) => Some(rooms),
-                Err(refusal) => {
-                    assert_eq!(refusal, bare(24), "{sheet:?}");
-                    None
-                }
-            }
-        };
-        let (mut others, mut near) = (0, 0);
-        for _ in 0..2000 {
-            let sheet = shaped_sheet(&mut random);
-            let tables = gives(&sheet).expect("tables");
-            let mut again = vec![0; sheet.rows.len()];
-            to_sheet([sheet.n, sheet.k, sheet.l], &tables, &mut again).expect("a sheet");
-            others += u32::from(again != sheet.rows);
-            near += u32::from(gives(&near_sheet(&mut random)).is_none());
-        }
-        assert!((500..1500).contains(&others), "{others}");
-        assert!((800..1800).contains(&near), "{near}");
-    }
-}
+mod tests;

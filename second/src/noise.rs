@@ -5,6 +5,7 @@ use crate::asking::{good_call, line_text, list};
 use crate::edges::edge_line;
 use crate::lines::ROOM_FOR_LINE;
 use crate::making::kitchen;
+use crate::opening::good_open_call;
 use crate::paging::{good_page_call, good_page_write};
 use crate::random::Random;
 use crate::roomnoise::room_noise;
@@ -36,11 +37,12 @@ pub fn noise_line(random: &mut Random) -> Vec<u8> {
     }
 }
 
-/// A good call, on a page, about tables or neither.
+/// A good call, on a page, to open one, about tables or none of these.
 fn some_call(random: &mut Random) -> String {
-    match random.below(6) {
-        0 | 1 => good_page_call(random),
-        2 => good_table_call(random),
+    match random.below(12) {
+        0..=3 => good_page_call(random),
+        4 => good_open_call(random),
+        5 | 6 => good_table_call(random),
         _ => good_call(random),
     }
 }
@@ -62,7 +64,8 @@ fn silent_line(random: &mut Random) -> Vec<u8> {
     }
 }
 
-/// A call under another verb or under none.
+/// A call under another verb or under none; `open` is not among them, since the sheet of
+/// another call may have too long a list for it.
 fn wrong_verb(random: &mut Random) -> Vec<u8> {
     let mut tokens = good_tokens(random);
     let verbs = [
@@ -86,6 +89,9 @@ fn wrong_verb(random: &mut Random) -> Vec<u8> {
         "pwrit",
         "preads",
         "Pwrite",
+        "Open",
+        "opens",
+        "ope",
         "tosheet",
         "totables",
         "tosheets",
@@ -198,12 +204,12 @@ fn wrong_page_count(random: &mut Random) -> Vec<u8> {
     joined(tokens)
 }
 
-/// A page call with more slots than any page has, or a page write with more records; now
-/// and then with as many as the room for a line has, or more.
+/// A page call, with the kitchen sheet's number, with more slots than any page has, or a page
+/// write with more records; now and then as many as the room for a line has, or more.
 fn many_slots(random: &mut Random) -> Vec<u8> {
     let kind = random.below(3);
-    let slots = |count: usize| [vec![0], list(&vec![0; count])].concat();
-    let records = |count: usize| [vec![0, 0, count as Word], vec![0; 3 * count]].concat();
+    let slots = |count: usize| [vec![3], list(&vec![0; count])].concat();
+    let records = |count: usize| [vec![3, 0, count as Word], vec![0; 3 * count]].concat();
     let line = |count: usize| match kind {
         0 => line_text("pread", &kitchen(), &[slots(count), vec![0, 1]].concat()),
         1 => line_text(

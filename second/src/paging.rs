@@ -1,9 +1,9 @@
-//! Page calls at random, as lines of the protocol: good ones, and ones with odd pages,
-//! records, slots and other arguments.
+//! Page calls at random, as lines of the protocol: good ones, and ones with odd plate
+//! numbers, pages, records, slots and other arguments.
 
 use crate::asking::{
     cells, good_message, good_read, good_write, high_bits, line_text, list, odd_message,
-    odd_radius, some_number, some_word, word_of,
+    odd_radius, some_word, word_of,
 };
 use crate::making::some_sheet;
 use crate::random::Random;
@@ -37,7 +37,7 @@ pub fn page_call(random: &mut Random, sheet: &Sheet, odd: bool) -> String {
     }
 }
 
-/// `pread` as a line: the number, which is not looked at, the page, slot and radius.
+/// `pread` as a line: the plate number, the page, slot and radius.
 fn page_read_call(random: &mut Random, sheet: &Sheet, odd: bool) -> String {
     let mut page = some_page(random, sheet, odd);
     let slot = some_slot(random, page.len() as u32, odd);
@@ -56,13 +56,12 @@ fn page_read_call(random: &mut Random, sheet: &Sheet, odd: bool) -> String {
         true => odd_radius(random, cells(sheet)),
         false => good_radius,
     };
-    let number = vec![Word::from(some_number(random))];
+    let number = vec![number_of_read(random, radius, odd)];
     let arguments = [number, list(&page), vec![Word::from(slot), radius]];
     line_text("pread", sheet, &arguments.concat())
 }
 
-/// `pwrite` as a line: the number, which is not looked at, the page, the records, slot and
-/// message.
+/// `pwrite` as a line: the plate number, the page, the records, slot and message.
 fn page_write_call(random: &mut Random, sheet: &Sheet, odd: bool) -> String {
     let page = some_page(random, sheet, odd);
     let slot = some_slot(random, page.len() as u32, odd);
@@ -81,11 +80,39 @@ fn page_write_call(random: &mut Random, sheet: &Sheet, odd: bool) -> String {
         }
     }
     let records = with_others(random, own, slot, odd);
-    let number = vec![Word::from(some_number(random))];
+    let number = vec![some_number(random, 1, odd)];
     let count = vec![records.len() as Word];
     let ends = vec![Word::from(slot), message];
     let arguments = [number, list(&page), count, records.concat(), ends];
     line_text("pwrite", sheet, &arguments.concat())
+}
+
+/// The plate number of a read: one that permits the radius, as far as one of 1 to 9 does; of
+/// the odd ones every second is the doubled radius, one less or one more.
+fn number_of_read(random: &mut Random, radius: Word, odd: bool) -> Word {
+    let doubled = 2 * radius.min(4) as u32;
+    if odd && random.once_in(2) {
+        let about = doubled + random.between(0, 2);
+        return Word::from(about.saturating_sub(1));
+    }
+    some_number(random, doubled + 1, odd)
+}
+
+/// A plate number from the least up to 9; of the odd ones some are outside 1 to 9.
+fn some_number(random: &mut Random, least: u32, odd: bool) -> Word {
+    let number = match odd && random.once_in(8) {
+        true => outside_number(random),
+        false => random.between(least, 9),
+    };
+    Word::from(number)
+}
+
+/// A number outside 1 to 9: next to them, one of them but for a high bit, the largest of 32
+/// bits, or any at all.
+fn outside_number(random: &mut Random) -> u32 {
+    let (inside, any) = (random.between(1, 9), random.number());
+    let high = inside + random.one_of(&[16, 256, 65_536, 1 << 31]);
+    random.one_of(&[0, 0, 10, 10, 11, high, high, u32::MAX, any])
 }
 
 /// A page: mostly few slots; of the odd ones some have none, or more than 2,048.
@@ -216,41 +243,4 @@ fn with_others(random: &mut Random, own: Vec<Triple>, slot: u32, odd: bool) -> V
 }
 
 #[cfg(test)]
-mod tests {
-    use super::*;
-    use crate::lines::answer_line;
-
-    /// How often each kind of answer comes up: by the refusal's number, and 0 where a
-    /// call is not refused. No line is `unknown`.
-    fn kinds(odd: bool) -> [u32; 16] {
-        let mut random = Random::new(61);
-        let mut times = [0; 16];
-        for _ in 0..3000 {
-            let sheet = some_sheet(&mut random);
-            let line = page_call(&mut random, &sheet, odd);
-            let answer = answer_line(line.as_bytes()).expect("an answer");
-            let tokens: Vec<&str> = answer.split(' ').collect();
-            let number = match tokens[0] {
-                "refused" => tokens[1].parse().expect("a number"),
-                "word" | "message" => 0,
-                _ => panic!("{line}: {answer}"),
-            };
-            times[number] += 1;
-        }
-        times
-    }
-
-    /// Good page calls are refused for want of a word or a codeword only; odd ones meet
-    /// every refusal of a page, and some of them none.
-    #[test]
-    fn refusals_that_come_up() {
-        let good = kinds(false);
-        assert_eq!(good.iter().sum::<u32>(), good[0] + good[9] + good[12]);
-        assert!(good[0] > 1500 && good[9] > 150 && good[12] > 50, "{good:?}");
-        let odd = kinds(true);
-        for number in [0, 7, 9, 10, 11, 12, 14, 15] {
-            assert!(odd[number] > 30, "{odd:?}");
-        }
-        assert!(odd[13] > 5, "{odd:?}");
-    }
-}
+mod tests;

@@ -1,9 +1,10 @@
 //! A small family of calls with nothing left out: all sheets of up to 3 cells, all tables
-//! for them, and the page calls of two of them.
+//! for them, the page calls of two of them, and a sheet of each plate number.
 
 use crate::asking::{call_text, line_text, list, Verb};
 use crate::every::{every_list, every_sheet};
-use crate::making::attic;
+use crate::making::{attic, repeating};
+use crate::opening::open_text;
 use crate::sheet::{admit, Sheet};
 use crate::smalltables::{sheets_to_make, sizes_to_judge, tables_in_any_rooms, tables_to_give};
 use crate::word::Word;
@@ -19,14 +20,16 @@ const PAGED: [(u32, u32, u32, &[Word]); 2] = [(2, 1, 1, &[1, 3, 3]), (3, 1, 1, &
 /// What the slots of a page hold before a write: no word of either sheet.
 const HELD: [Word; 2] = [Word::MAX, 1 << 31];
 
-/// Prints the family: every list of rows of up to 2 cells is asked to be admitted, and for
-/// its tables; every admitted sheet of up to 3 cells is measured, and asked for its tables;
-/// the attic sheet, those of up to 2 cells and some of those of 3 are written and read in
-/// every way; two have page calls, and rooms of any sizes for their tables. All tables of
-/// up to 3 cells are made into sheets.
+/// Prints the family: every list of rows of up to 2 cells is asked to be admitted, for its
+/// plate number, and for its tables; every admitted sheet of up to 3 cells is measured, and
+/// asked for both; the attic sheet, those of up to 2 cells and some of those of 3 are written
+/// and read in every way; two have page calls, and rooms of any sizes for their tables. All
+/// tables of up to 3 cells are made into sheets. A sheet of each d1 from 1 to 10 is asked for
+/// its plate number.
 pub fn print_small(mut output: impl Write) -> io::Result<()> {
     let mut lines = writes_and_reads(&attic());
     lines.extend(sizes_to_judge());
+    lines.extend((1..=10).map(|n| open_text(&repeating(n))));
     for (n, k, l, rows) in PAGED {
         let rows = rows.to_vec();
         let sheet = Sheet { n, k, l, rows };
@@ -54,6 +57,7 @@ fn calls_of_numbers(n: u32, k: u32, l: u32) -> Vec<String> {
     if n < 3 {
         for sheet in every_sheet(n, k, l, (1 << n) + 1) {
             lines.push(call_text(Verb::Admit, &sheet, &[]));
+            lines.push(open_text(&sheet));
             lines.push(tables_to_give(&sheet));
         }
     }
@@ -68,9 +72,9 @@ fn calls_of_numbers(n: u32, k: u32, l: u32) -> Vec<String> {
     lines
 }
 
-/// Admission, and both distances at caps 1 to 4.
+/// Admission, the plate number, and both distances at caps 1 to 4.
 fn measurements(sheet: &Sheet) -> Vec<String> {
-    let mut lines = vec![call_text(Verb::Admit, sheet, &[])];
+    let mut lines = vec![call_text(Verb::Admit, sheet, &[]), open_text(sheet)];
     for cap in 1..=4 {
         lines.push(call_text(Verb::D0, sheet, &[cap]));
         lines.push(call_text(Verb::D1, sheet, &[cap]));
@@ -99,7 +103,7 @@ fn writes_and_reads(sheet: &Sheet) -> Vec<String> {
 
 /// Every list of up to 2 records with slots 0 and 1, cells up to n and levels up to 2, on
 /// a page of 2 slots: slots 0 to 2, and every message and one past them. And no record,
-/// on pages of 0 and 1 slots.
+/// on pages of 0 and 1 slots. The number is each of 0 to 10, but 1 with 2 records.
 fn page_writes(sheet: &Sheet) -> Vec<String> {
     let mut lines = Vec::new();
     for slots in 0..=2 {
@@ -108,11 +112,12 @@ fn page_writes(sheet: &Sheet) -> Vec<String> {
             _ => vec![vec![]],
         };
         for records in lists {
-            for slot in 0..=2 {
-                for message in 0..=1 << sheet.k {
-                    let page = list(&HELD[..slots]);
-                    let count = vec![records.len() as Word / 3];
-                    let rest = [vec![0], page, count, records.clone(), vec![slot, message]];
+            let count = records.len() as Word / 3;
+            let numbers = if count < 2 { 0..=10 } else { 1..=1 };
+            for number in numbers {
+                for slot_and_message in every_list(vec![3, (1 << sheet.k) + 1]) {
+                    let before = [vec![number], list(&HELD[..slots]), vec![count]].concat();
+                    let rest = [before, records.clone(), slot_and_message];
                     lines.push(line_text("pwrite", sheet, &rest.concat()));
                 }
             }
@@ -137,18 +142,17 @@ fn record_lists(n: u32) -> Vec<Vec<Word>> {
     [vec![vec![]], records, pairs].concat()
 }
 
-/// Every page of up to 2 slots whose words are at most 2^n: slots 0 to 2, radius 0 to n
-/// and 5.
+/// Every page of up to 2 slots whose words are at most 2^n: numbers 0 to 10, slots 0 to 2,
+/// and radius 0 to 5.
 fn page_reads(sheet: &Sheet) -> Vec<String> {
     let limit = (1 << sheet.n) + 1;
     let mut lines = Vec::new();
     for slots in 0..=2 {
         for page in every_list(vec![limit; slots]) {
-            for slot in 0..=2 {
-                for radius in (0..=Word::from(sheet.n)).chain([5]) {
-                    let rest = [vec![0], list(&page), vec![slot, radius]];
-                    lines.push(line_text("pread", sheet, &rest.concat()));
-                }
+            for choice in every_list(vec![11, 3, 6]) {
+                let (number, slot_and_radius) = choice.split_at(1);
+                let rest = [number, &list(&page)[..], slot_and_radius];
+                lines.push(line_text("pread", sheet, &rest.concat()));
             }
         }
     }
@@ -162,15 +166,15 @@ mod tests {
     /// The sheets of the page calls are admitted, and their calls are counted another way.
     #[test]
     fn number_of_page_calls() {
-        for ((n, k, l, rows), lists) in PAGED.into_iter().zip([1 + 18 + 18 * 18, 1 + 24 + 24 * 24])
-        {
+        for ((n, k, l, rows), records) in PAGED.into_iter().zip([18, 24]) {
             let rows = rows.to_vec();
             let sheet = Sheet { n, k, l, rows };
             assert!(admit(&sheet).is_ok());
-            assert_eq!(page_writes(&sheet).len(), (lists + 2) * 3 * 3);
+            let lists_and_numbers = (2 + 1 + records) * 11 + records * records;
+            assert_eq!(page_writes(&sheet).len(), lists_and_numbers * 3 * 3);
             let words = (1 << n) + 1;
             let pages = 1 + words + words * words;
-            assert_eq!(page_reads(&sheet).len(), pages * 3 * (n as usize + 2));
+            assert_eq!(page_reads(&sheet).len(), pages * 11 * 3 * 6);
         }
     }
 }

@@ -1,5 +1,5 @@
-//! How long a list a call has to go through, and radius and cap held to lists that are not
-//! too long.
+//! How long a list a call has to go through, radius and cap held to lists that are not too
+//! long, and the sheets under which a page may be opened.
 
 use crate::random::Random;
 use crate::word::Word;
@@ -63,6 +63,12 @@ pub fn tame_cap(random: &mut Random, n: u32, rows: u32, cap: Word) -> Word {
     tame
 }
 
+/// Whether a page may be opened under a sheet of n cells whose d1 is at most so much: a
+/// measurement of it at cap 8 does not go through too long a list.
+pub fn may_open(random: &mut Random, n: u32, most: u32) -> bool {
+    tame_cap(random, n, most - 1, 8) == 8
+}
+
 #[cfg(test)]
 mod tests {
     use super::*;
@@ -103,5 +109,23 @@ mod tests {
             times[tame_cap(&mut random, 64, u32::MAX, 8) as usize - 3] += 1;
         }
         assert!(times[0] > 1800 && times[1] > 50, "{times:?}");
+    }
+
+    /// A page may be opened under any sheet of up to 20 cells, and under a wider one if its
+    /// d1 is small: at 64 cells 3, and once in a while 4.
+    #[test]
+    fn sheets_to_open() {
+        let mut random = Random::new(92);
+        let mut times = 0;
+        for _ in 0..1000 {
+            for (n, most) in [(1, 2), (20, 20), (32, 4), (64, 1), (64, 3)] {
+                assert!(may_open(&mut random, n, most));
+            }
+            for (n, most) in [(23, 9), (32, 6), (64, 5), (64, 64)] {
+                assert!(!may_open(&mut random, n, most));
+            }
+            times += u32::from(may_open(&mut random, 64, 4));
+        }
+        assert!((20..100).contains(&times), "{times}");
     }
 }

@@ -4,7 +4,7 @@
 use super::*;
 use crate::asking::{far_sheet, Verb};
 use crate::every::every_sheet;
-use crate::making::{attic, kitchen, random_sheet};
+use crate::making::{attic, cellar, kitchen, random_sheet, repeating};
 use crate::random::Random;
 use crate::word::all_ones;
 use std::collections::BTreeSet;
@@ -114,14 +114,6 @@ fn check_plate(sheet: &Sheet) -> u32 {
     distance
 }
 
-/// The sheet with two codewords, all zeros and all ones, so that d1 is n.
-fn repeating(n: u32) -> Sheet {
-    let checks = (1..n).map(|cell| 3 << (cell - 1));
-    let rows = [all_ones(n)].into_iter().chain(checks).chain([1]).collect();
-    let (k, l) = (1, 0);
-    Sheet { n, k, l, rows }
-}
-
 /// The plate is right on every admitted sheet of up to 3 cells.
 #[test]
 fn plates_of_the_smallest_sheets() {
@@ -139,13 +131,8 @@ fn plates_of_the_smallest_sheets() {
 /// random sheets of up to 8 cells, among them some of each d1 from 1 to 5.
 #[test]
 fn plates_of_other_sheets() {
-    let rows = vec![177, 210, 228, 255, 27, 45, 78, 135, 9, 10, 12];
-    let (n, k, l) = (8, 3, 1);
-    let chip = Sheet { n, k, l, rows };
-    assert_eq!(
-        [kitchen(), attic(), chip].map(|s| check_plate(&s)),
-        [3, 1, 4]
-    );
+    let bench = [kitchen(), attic(), cellar()];
+    assert_eq!(bench.map(|sheet| check_plate(&sheet)), [3, 1, 4]);
     for n in 1..=9 {
         assert_eq!(check_plate(&repeating(n)), n);
     }

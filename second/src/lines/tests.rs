@@ -1,9 +1,10 @@
 //! Tests of whole lines: the bench cases of document 01 as one table, those of request 3
 //! as another, and lines that are no calls. Those of request 1 are in `pages`, of request 4
-//! in `rooms`, and of request 5 in `towers`.
+//! in `rooms`, of request 5 in `towers`, and of request 6 in `numbers`.
 
 use super::*;
 
+mod numbers;
 mod pages;
 mod rooms;
 mod towers;
@@ -91,6 +92,12 @@ const PLATE: [(&str, &str, &str, &str); 9] = [
 /// The answer to a line that is given as text.
 fn answered(line: &str) -> Option<String> {
     answer_line(line.as_bytes())
+}
+
+/// A sheet as it stands on a line.
+fn sheet_text(sheet: &Sheet) -> String {
+    let Sheet { n, k, l, rows } = sheet;
+    format!("{n} {k} {l} {}", list_text(rows))
 }
 
 /// Every bench case is answered as document 01 says or, of the plate, request 3.

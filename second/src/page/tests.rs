@@ -1,10 +1,12 @@
 //! Tests of the page: its limits, its refusals and their order, and what other slots and
-//! their records may not change.
+//! their records may not change. Those of the plate number are in `numbers`.
 
 use super::*;
 use crate::making::{attic, kitchen, random_sheet};
 use crate::random::Random;
 use crate::word::all_ones;
+
+mod numbers;
 
 /// A word that no slot of these tests gets by a write.
 const OLD: Word = 1_000_000_000_000_000_003;
@@ -14,11 +16,12 @@ fn record(slot: u32, cell: u32, level: u8) -> Record {
     Record { slot, cell, level }
 }
 
-/// What a page write to so many old words answers; checks that a refused call changes
+/// What a page write to so many old words answers, with a number that is good for any
+/// sheet; checks that a refused call changes
 /// nothing and that a good one changes its slot alone, to the word answered.
 fn written(sheet: &Sheet, slots: usize, records: &[Record], slot: u32, message: Word) -> Told {
     let mut page = vec![OLD; slots];
-    let result = page_write(sheet, &mut page, records, slot, message);
+    let result = page_write(sheet, 9, &mut page, records, slot, message);
     let mut wanted = vec![OLD; slots];
     if let Ok(Answer::Word { word, .. }) = result {
         wanted[slot as usize] = word;
@@ -62,7 +65,7 @@ fn most_records_and_slots() {
 /// A read takes 2,048 slots and gives refusal 13 at one more, before 14.
 #[test]
 fn most_slots_of_a_read() {
-    let read_of = |slots: usize, slot| page_read(&kitchen(), &vec![85; slots], slot, 1);
+    let read_of = |slots: usize, slot| page_read(&kitchen(), 9, &vec![85; slots], slot, 1);
     let (message, z, tried) = (5, 0, 1);
     let answer = Ok(Answer::Message { message, z, tried });
     assert_eq!(read_of(2_048, 0), answer);
@@ -79,7 +82,7 @@ fn no_such_slot() {
         let bad = [record(slot, 9, 9)];
         assert_eq!(written(&kitchen(), slots, &bad, slot, 8), Err(bare(14)));
         let page = vec![Word::MAX; slots];
-        assert_eq!(page_read(&kitchen(), &page, slot, 9), Err(bare(14)));
+        assert_eq!(page_read(&kitchen(), 9, &page, slot, 9), Err(bare(14)));
     }
     assert_eq!(written(&kitchen(), 3, &[], 2, 5), word(85, 0));
 }
@@ -137,7 +140,7 @@ fn order_of_a_write() {
 /// A read gives 14, 10, 11 and 12, in this order.
 #[test]
 fn order_of_a_read() {
-    let read_of = |slot, radius| page_read(&kitchen(), &[128 + 21, 21], slot, radius);
+    let read_of = |slot, radius| page_read(&kitchen(), 9, &[128 + 21, 21], slot, radius);
     assert_eq!(read_of(2, 9), Err(bare(14)));
     assert_eq!(read_of(0, 9), Err(placed(10, 7)));
     assert_eq!(read_of(1, 9), Err(bare(11)));
@@ -240,12 +243,12 @@ fn other_slots_do_not_matter() {
         }
         let y = random.word(sheet.n);
         let mut pages = [[0, y, 0], [random.word(64), y, random.word(64)]];
-        let reads = pages.map(|page| page_read(&sheet, &page, 1, radius));
+        let reads = pages.map(|page| page_read(&sheet, 9, &page, 1, radius));
         assert_eq!(reads[0], reads[1]);
         let [first, second] = &mut pages;
         assert_eq!(
-            page_write(&sheet, first, &records, 1, message),
-            page_write(&sheet, second, &others, 1, message)
+            page_write(&sheet, 9, first, &records, 1, message),
+            page_write(&sheet, 9, second, &others, 1, message)
         );
         assert_eq!(first[1], second[1]);
     }

@@ -2,13 +2,7 @@
 //! lists, numbers at the edges of 32 and 64 bits, and what n may be.
 
 use super::*;
-use crate::making::tower;
-
-/// A sheet as it stands on a line.
-fn sheet_text(sheet: &Sheet) -> String {
-    let Sheet { n, k, l, rows } = sheet;
-    format!("{n} {k} {l} {}", list_text(rows))
-}
+use crate::making::{repeating, tower};
 
 /// The tower sheet's rows, by its own account.
 #[test]
@@ -87,7 +81,8 @@ fn bench_cases_of_the_tower() {
     }
 }
 
-/// A page of the tower sheet: its highest cell is stuck, and cell 64 is none.
+/// A page of the tower sheet: its highest cell is stuck, and cell 64 is none. d1 is 2, so that
+/// radius 1 is read with a larger number only.
 #[test]
 fn page_of_the_tower() {
     let sheet = sheet_text(&tower());
@@ -106,12 +101,20 @@ fn page_of_the_tower() {
             "refused 15 0 page 2 18446744073709551615 18446744073709551615",
         ),
     ] {
-        let line = format!("pwrite {sheet} 0 2 {held} {held} 1 {record} 0 {message}");
+        let line = format!("pwrite {sheet} 2 2 {held} {held} 1 {record} 0 {message}");
         assert_eq!(answered(&line).as_deref(), Some(wanted));
     }
-    let line = format!("pread {sheet} 0 1 11529215046068469761 0 1");
-    let wanted = format!("message {message} z 1 tried 2");
-    assert_eq!(answered(&line), Some(wanted));
+    assert_eq!(
+        answered(&format!("open {sheet}")).as_deref(),
+        Some("number 2")
+    );
+    for (number, wanted) in [
+        (2, "refused 16".to_string()),
+        (3, format!("message {message} z 1 tried 2")),
+    ] {
+        let line = format!("pread {sheet} {number} 1 11529215046068469761 0 1");
+        assert_eq!(answered(&line), Some(wanted));
+    }
 }
 
 /// n may be 64; 65 is refusal 1, with the n + k rows that it asks for and with others, and
@@ -142,17 +145,8 @@ fn most_cells() {
     }
 }
 
-/// The sheet of n cells with two codewords, all zeros and all ones: d1 is n, and a word of
-/// weight up to 4 is the nearer to zero.
-fn repeating(n: u32) -> Sheet {
-    let checks = (1..n).map(|cell| 3 << (cell - 1));
-    let rows = [Word::MAX >> (64 - n)].into_iter().chain(checks).chain([1]);
-    let (k, l) = (1, 0);
-    let rows = rows.collect();
-    Sheet { n, k, l, rows }
-}
-
-/// The lists over 63 and 64 cells are gone through to their end, up to weight 4.
+/// The lists over 63 and 64 cells are gone through to their end, up to weight 4: the sheet's
+/// codewords are all zeros and all ones, and half ones are far from both.
 #[test]
 fn lists_of_64_cells() {
     let of_64 = [64, 64 + 2_016, 64 + 2_016 + 41_664, 679_120];
@@ -185,10 +179,11 @@ fn edges_of_words() {
         ("write 3 1 2 4 1 3 5 7 0 # 0", "refused 8 "),
         ("write 3 1 2 4 1 3 5 7 0 7 #", "refused 8 "),
         ("read 3 1 2 4 1 3 5 7 # 0", "refused 10 "),
-        ("pwrite 3 1 2 4 1 3 5 7 0 1 # 0 0 0", "word 0 d 0 page 1 0"),
-        ("pwrite 3 1 2 4 1 3 5 7 0 1 # 0 1 0", "refused 14 page 1 #"),
-        ("pwrite 3 1 2 4 1 3 5 7 0 1 5 0 0 #", "refused 7 page 1 5"),
-        ("pread 3 1 2 4 1 3 5 7 0 1 # 0 0", "refused 10 "),
+        ("open 3 1 2 4 1 3 5 #", "refused 2 3"),
+        ("pwrite 3 1 2 4 1 3 5 7 1 1 # 0 0 0", "word 0 d 0 page 1 0"),
+        ("pwrite 3 1 2 4 1 3 5 7 1 1 # 0 1 0", "refused 14 page 1 #"),
+        ("pwrite 3 1 2 4 1 3 5 7 1 1 5 0 0 #", "refused 7 page 1 5"),
+        ("pread 3 1 2 4 1 3 5 7 1 1 # 0 0", "refused 10 "),
         ("tosheet 1 1 0 1 # 0 0 2 5", "refused 2 0 room 2 5 5"),
         ("tosheet 1 1 0 1 0 0 0 1 #", "refused 1 room 1 #"),
         (
@@ -215,7 +210,7 @@ fn edges_of_words() {
 
 /// Lines with a place of a number that is no word, and a number with which they are answered
 /// and not refused.
-const NUMBERS: [(&str, u128); 24] = [
+const NUMBERS: [(&str, u128); 28] = [
     ("admit # 1 2 4 1 3 5 7", 3),
     ("admit 3 # 2 4 1 3 5 7", 1),
     ("admit 3 1 # 4 1 3 5 7", 2),
@@ -224,16 +219,20 @@ const NUMBERS: [(&str, u128); 24] = [
     ("d0 3 1 2 4 1 3 5 7 #", 8),
     ("d1 3 1 2 4 1 3 5 7 #", 8),
     ("pwrite 3 1 2 4 1 3 5 7 # 1 5 1 0 0 0 0 0", 9),
-    ("pwrite 3 1 2 4 1 3 5 7 0 # 5 1 0 0 0 0 0", 1),
-    ("pwrite 3 1 2 4 1 3 5 7 0 1 5 # 0 0 0 0 0", 1),
-    ("pwrite 3 1 2 4 1 3 5 7 0 1 5 1 # 0 0 0 0", 0),
-    ("pwrite 3 1 2 4 1 3 5 7 0 1 5 1 0 # 0 0 0", 2),
-    ("pwrite 3 1 2 4 1 3 5 7 0 1 5 1 0 0 # 0 0", 1),
-    ("pwrite 3 1 2 4 1 3 5 7 0 1 5 1 0 0 0 # 0", 0),
+    ("pwrite 3 1 2 4 1 3 5 7 9 # 5 1 0 0 0 0 0", 1),
+    ("pwrite 3 1 2 4 1 3 5 7 9 1 5 # 0 0 0 0 0", 1),
+    ("pwrite 3 1 2 4 1 3 5 7 9 1 5 1 # 0 0 0 0", 0),
+    ("pwrite 3 1 2 4 1 3 5 7 9 1 5 1 0 # 0 0 0", 2),
+    ("pwrite 3 1 2 4 1 3 5 7 9 1 5 1 0 0 # 0 0", 1),
+    ("pwrite 3 1 2 4 1 3 5 7 9 1 5 1 0 0 0 # 0", 0),
     ("pread 3 1 2 4 1 3 5 7 # 1 5 0 0", 9),
-    ("pread 3 1 2 4 1 3 5 7 0 # 5 0 0", 1),
-    ("pread 3 1 2 4 1 3 5 7 0 1 5 # 0", 0),
-    ("pread 3 1 2 4 1 3 5 7 0 1 5 0 #", 4),
+    ("pread 3 1 2 4 1 3 5 7 9 # 5 0 0", 1),
+    ("pread 3 1 2 4 1 3 5 7 9 1 5 # 0", 0),
+    ("pread 3 1 2 4 1 3 5 7 9 1 5 0 #", 4),
+    ("open # 1 2 4 1 3 5 7", 3),
+    ("open 3 # 2 4 1 3 5 7", 1),
+    ("open 3 1 # 4 1 3 5 7", 2),
+    ("open 3 1 2 # 1 3 5 7", 4),
     ("tosheet # 1 0 1 0 0 0 2 7", 1),
     ("tosheet 1 # 0 1 0 0 0 2 7", 1),
     ("tosheet 1 1 # 1 0 0 0 2 7", 0),
