@@ -150,12 +150,13 @@ def _():
     asked = lambda text: text.encode() + b"\n" + WRITE
     for slots, records in ((2048, 256), (2049, 256), (2048, 257), (0, 257)):
         page = counted(slots, MOST_WORD)
-        line = "pwrite %s %s %s %s 7 5" % (KITCHEN, MOST, page, counted(records, "%s %s 255" % (MOST, MOST)))
+        line = "pwrite %s 9 %s %s 7 5" % (KITCHEN, page, counted(records, "%s %s 255" % (MOST, MOST)))
         written = "word 85 d 0 page 2048%s 85%s" % ((" " + MOST_WORD) * 7, (" " + MOST_WORD) * 2040)
         good(calls(asked(line)), told(written if (slots, records) == (2048, 256) else "refused 13 page " + page))
-    for slots, wanted in ((2048, "refused 10 7"), (2049, "refused 13")):
-        good(calls(asked("pread %s %s %s 7 1" % (KITCHEN, MOST, counted(slots, MOST_WORD)))), told(wanted))
-    whole = lambda slots: "pwrite %s 0 %s 0 7 5" % (KITCHEN, counted(slots, "0"))
+        good(calls(asked(line.replace(KITCHEN + " 9", KITCHEN + " " + MOST))), told("refused 16 page " + page))
+    for slots, number, wanted in ((2048, "9", "refused 10 7"), (2049, "9", "refused 13"), (2049, MOST, "refused 16")):
+        good(calls(asked("pread %s %s %s 7 1" % (KITCHEN, number, counted(slots, MOST_WORD)))), told(wanted))
+    whole = lambda slots: "pwrite %s 9 %s 0 7 5" % (KITCHEN, counted(slots, "0"))
     slots = 10000 + (ROOM - len(whole(10000))) // 2
     good(calls(asked(whole(slots))), told("refused 13 page " + counted(slots, "0")))
     good(calls(asked(whole(slots + 1))), told("unknown"))
@@ -181,26 +182,32 @@ def _():
     text = ""
     wanted = ""
     for arguments, answer in (
-        ("0 3 7 8 9 1 1 0 0 1 5", "word 42 d 1 page 3 7 42 9"),
-        ("0 0 0 0 5", "refused 14 page 0"),
-        ("0 1 0 3 0 0 1 0 0 1 0 9 0 0 5", "refused 15 2 page 1 0"),
-        ("0 1 6 1 0 0 255 0 5", "refused 15 0 page 1 6"),
-        ("0 1 6 1 0 0 256 0 5", "unknown"),
-        ("0 1 6 1 1 0 256 0 5", "unknown"),
-        ("0 1 6 1 1 4294967295 255 0 5", "word 85 d 0 page 1 85"),
-        ("0 1 6 1 0 7 0 0 8", "refused 15 0 page 1 6"),
-        ("0 1 6 2 0 0 0 0 1 0 0 5", "refused 9 page 1 6"),
-        ("0 1 6 2 0 0 0 0 5", "unknown"),
-        ("0 1 6 1431655766 0 0 0 0 5", "unknown"),
-        ("0 4294967295 6 0 0 5", "unknown"),
+        ("3 3 7 8 9 1 1 0 0 1 5", "word 42 d 1 page 3 7 42 9"),
+        ("3 0 0 0 5", "refused 14 page 0"),
+        ("3 1 0 3 0 0 1 0 0 1 0 9 0 0 5", "refused 15 2 page 1 0"),
+        ("3 1 6 1 0 0 255 0 5", "refused 15 0 page 1 6"),
+        ("3 1 6 1 0 0 256 0 5", "unknown"),
+        ("3 1 6 1 1 0 256 0 5", "unknown"),
+        ("3 1 6 1 1 4294967295 255 0 5", "word 85 d 0 page 1 85"),
+        ("3 1 6 1 0 7 0 0 8", "refused 15 0 page 1 6"),
+        ("3 1 6 2 0 0 0 0 1 0 0 5", "refused 9 page 1 6"),
+        ("3 1 6 2 0 0 0 0 5", "unknown"),
+        ("3 1 6 1431655766 0 0 0 0 5", "unknown"),
+        ("3 4294967295 6 0 0 5", "unknown"),
+        ("0 1 6 0 0 5", "refused 16 page 1 6"),
+        ("10 1 6 0 0 5", "refused 16 page 1 6"),
+        ("9 1 6 0 0 5", "word 85 d 0 page 1 85"),
+        ("4294967295 1 6 0 0 5", "refused 16 page 1 6"),
         ("4294967296 1 6 0 0 5", "unknown"),
-        ("0 1 4294967296 0 0 5", "word 85 d 0 page 1 85"),
-        ("0 1 18446744073709551616 0 0 5", "unknown"),
-        ("0 1 6 1 0 4294967296 0 0 5", "unknown"),
+        ("3 1 4294967296 0 0 5", "word 85 d 0 page 1 85"),
+        ("3 1 18446744073709551616 0 0 5", "unknown"),
+        ("3 1 6 1 0 4294967296 0 0 5", "unknown"),
     ):
         text += "pwrite %s %s\n" % (KITCHEN, arguments)
         wanted += answer + "\n"
     good(calls(text), wanted.encode())
+    text = "open %s\npread %s 3 1 21 0 1\npread %s 3 1 21 0 2\nopen %s 8\n" % (KITCHEN, KITCHEN, KITCHEN, KITCHEN)
+    good(calls(text), b"number 3\nmessage 5 z 64 tried 8\nrefused 16\nunknown\n")
 
 
 @test("console: lost output is status 1 and one line")

@@ -19,6 +19,7 @@ pub fn page_write(
     k: u32,
     l: u32,
     rows: &[Word],
+    number: u32,
     page: &mut [Word],
     records: [StuckCell; ROOM_RECORDS],
     count: usize,
@@ -26,8 +27,18 @@ pub fn page_write(
     message: Word,
 ) -> Written
     requires { ⌜ count ≤ mostRecords + 1 ⌝ }
-    ensures { λ r. ⌜ written r ≡ pageWrites (sheet n k l (now (rows .entry))) (now (page .entry)) (take count records) slot message ⌝ }
-    ensures { λ r. ⌜ now (page .exit) ≡ pageAfter (pageWrites (sheet n k l (now (rows .entry))) (now (page .entry)) (take count records) slot message) (now (page .entry)) slot ⌝ }
+    ensures { λ r. ⌜ written r ≡ pageWrites (sheet n k l (now (rows .entry))) number (now (page .entry)) (take count records) slot message ⌝ }
+    ensures { λ r. ⌜ now (page .exit) ≡ pageAfter (pageWrites (sheet n k l (now (rows .entry))) number (now (page .entry)) (take count records) slot message) (now (page .entry)) slot ⌝ }
 {
-    page::page_write(n, k, l, rows, page, &records[..count], slot, message)
+    page::page_write(
+        n,
+        k,
+        l,
+        rows,
+        number,
+        page,
+        &records[..count],
+        slot,
+        message,
+    )
 }

@@ -35,8 +35,8 @@ puts-slot s ok records slot w =
     let m : min (s .n) width ≡ s .n = omega (arith, ok .shape .few-cells) in
     puts-at s (recordsOf slot records) w _ (ap (λ (n : ℕ). firstBroken n (recordsOf slot records)) (sym m))
 
-pub with-gathered : (s : Sheet) (page : List ℕ) (records : List StuckCell) (slot w : ℕ)
-    → writesWith s page (length records) (gatherOf slot (s .n) records) slot w ≡ pageWrites s page records slot w
+pub with-gathered : (s : Sheet) (number : ℕ) (page : List ℕ) (records : List StuckCell) (slot w : ℕ)
+    → writesWith s number page (length records) (gatherOf slot (s .n) records) slot w ≡ pageWrites s number page records slot w
 unfolding writesWith pageWrites
-with-gathered s page records slot w =
-    alike-when-sound s (fewSlots page && fewRecords records) _ _ (λ ok. ap (λ (t : Told). unless (ltb slot (length page)) 14 t) (puts-slot s ok records slot w))
+with-gathered s number page records slot w =
+    alike-when-sound s number (fewSlots page && fewRecords records) _ _ (λ ok. ap (λ (t : Told). unless (ltb slot (length page)) 14 t) (puts-slot s ok records slot w))

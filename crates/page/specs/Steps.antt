@@ -21,7 +21,7 @@ unfolding writesAdmitted
 putsAdmitted s g w = unlessAt (brokenAt g) 15 0 (writesAdmitted s w (g .mask) (g .levels))
 
 -- from the sheet's rules on
-unfoldable pub writesWith : Sheet → List ℕ → ℕ → Gathered → ℕ → ℕ → Told
+unfoldable pub writesWith : Sheet → ℕ → List ℕ → ℕ → Gathered → ℕ → ℕ → Told
 unfolding paged putsAdmitted
-writesWith s page count g slot w =
-    paged s (fewSlots page && leb count mostRecords) (unless (ltb slot (length page)) 14 (putsAdmitted s g w))
+writesWith s number page count g slot w =
+    paged s number (fewSlots page && leb count mostRecords) (unless (ltb slot (length page)) 14 (putsAdmitted s g w))

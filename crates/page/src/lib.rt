@@ -1,19 +1,23 @@
-// A page of names under one sheet: page_write puts a word in one slot, page_read takes one slot. Neither asks anything of what it is handed.
-// Each checks the sheet once, judges the page and its arguments in the order of change request 1, and then does the job on an admitted sheet.
+// A page of names under one sheet: open_page gives its plate number, page_write puts a word in one slot, page_read takes one slot. None asks anything of what it is handed.
+// Each checks the sheet once, judges the page and its arguments in the order of change requests 1 and 6, and then does the job on an admitted sheet.
 ghost use mathlib.Core.Bool.{_&&_};
 ghost use mathlib.Core.List.{[]};
 ghost use mathlib.Core.Path.{_≡_};
 ghost use Prim.Native.Nat.{_<_};
 ghost use lib.Dec.{leb};
 ghost use lib.ListN.{length};
-ghost use Rattle.paper.specs.Page.{mostSlots, mostRecords, paged, pageWrites, pageAfter, pageReads};
-ghost use Rattle.paper.specs.Refusals.{answer, admission, written, reading};
+ghost use Rattle.paper.specs.Page.{mostSlots, mostRecords, opens, numbered, paged, pageWrites, pageAfter, pageReads};
+ghost use Rattle.paper.specs.Refusals.{answer, admission, written, reading, opening};
 ghost use Rattle.paper.specs.Sheet.{sheet};
 ghost use Rattle.sheet.specs.Sound.{Sound};
 ghost use Rattle.page.specs.Steps.{putsAdmitted, writesWith};
 use paper::Admission;
+use paper::MOST_CAP;
+use paper::MOST_NUMBER;
 use paper::MOST_RECORDS;
 use paper::MOST_SLOTS;
+use paper::MeasuredD1;
+use paper::Opening;
 use paper::Reading;
 use paper::Refusal;
 use paper::StuckCell;
@@ -22,6 +26,33 @@ use paper::Written;
 use records::Gathered;
 use records::gather;
 
+// Opens a page, by the sheet alone: measures d1 with cap 8 and gives the page's plate number, d1 or 9 for more than 8. Refusals 1 to 6.
+pub fn open_page(n: u32, k: u32, l: u32, rows: &[Word]) -> Opening
+    ensures { λ r. ⌜ opening r ≡ opens (sheet n k l (now (rows .entry))) ⌝ }
+{
+    match store::measure_d1(n, k, l, rows, MOST_CAP) {
+        MeasuredD1::Distance {
+            d,
+            tried: _,
+            radius: _,
+        } => Opening::Number { number: d },
+        MeasuredD1::More {
+            tried: _,
+            radius: _,
+        } => Opening::Number {
+            number: MOST_NUMBER,
+        },
+        MeasuredD1::Refused(why) => Opening::Refused(why),
+    }
+}
+
+// Whether a plate number is one of 1 to 9, for 16.
+fn is_number(number: u32) -> bool
+    ensures { λ r. ⌜ r ≡ numbered number ⌝ }
+{
+    1 <= number && number <= MOST_NUMBER
+}
+
 // Whether slots and records are few enough for 13: "more than 256 records or 2,048 slots".
 fn are_few(slots: usize, count: usize) -> bool
     ensures { λ r. ⌜ r ≡ (leb slots mostSlots && leb count mostRecords) ⌝ }
@@ -29,13 +60,16 @@ fn are_few(slots: usize, count: usize) -> bool
     slots <= MOST_SLOTS && count <= MOST_RECORDS
 }
 
-// 1 to 6, then 13 unless slots and records are few enough.
-fn admit(n: u32, k: u32, l: u32, rows: &[Word], few: bool) -> Admission
-    ensures { λ r. ⌜ admission r ≡ paged (sheet n k l (now (rows .entry))) few (answer []) ⌝ }
+// 1 to 6, then 16 for the number, then 13 unless slots and records are few enough.
+fn admit(n: u32, k: u32, l: u32, rows: &[Word], number: u32, few: bool) -> Admission
+    ensures { λ r. ⌜ admission r ≡ paged (sheet n k l (now (rows .entry))) number few (answer []) ⌝ }
 {
     match sheet::admit(n, k, l, rows) {
         Admission::Refused(why) => Admission::Refused(why),
         Admission::Admitted => {
+            if !is_number(number) {
+                return Admission::Refused(Refusal::Plate);
+            }
             if few {
                 Admission::Admitted
             } else {
@@ -72,22 +106,23 @@ fn put(
     }
 }
 
-// Writes one slot, from what its records gather to: 1 to 6, 13, 14, then 15 and the writer.
+// Writes one slot, from what its records gather to: 1 to 6, 16, 13, 14, then 15 and the writer.
 fn write_gathered(
     n: u32,
     k: u32,
     l: u32,
     rows: &[Word],
+    number: u32,
     page: &mut [Word],
     count: usize,
     g: Gathered,
     slot: u32,
     message: Word,
 ) -> Written
-    ensures { λ r. ⌜ written r ≡ writesWith (sheet n k l (now (rows .entry))) (now (page .entry)) count g slot message ⌝ }
-    ensures { λ r. ⌜ now (page .exit) ≡ pageAfter (writesWith (sheet n k l (now (rows .entry))) (now (page .entry)) count g slot message) (now (page .entry)) slot ⌝ }
+    ensures { λ r. ⌜ written r ≡ writesWith (sheet n k l (now (rows .entry))) number (now (page .entry)) count g slot message ⌝ }
+    ensures { λ r. ⌜ now (page .exit) ≡ pageAfter (writesWith (sheet n k l (now (rows .entry))) number (now (page .entry)) count g slot message) (now (page .entry)) slot ⌝ }
 {
-    if let Admission::Refused(why) = admit(n, k, l, rows, are_few(page.len(), count)) {
+    if let Admission::Refused(why) = admit(n, k, l, rows, number, are_few(page.len(), count)) {
         return Written::Refused(why);
     }
     let at = slot as usize;
@@ -97,43 +132,45 @@ fn write_gathered(
     put(n, k, l, rows, page, g, at, message)
 }
 
-// Writes a message to one slot of a page, around the stuck cells that the records name: refusals 1 to 6, 13, 14, 15, then 7 and 9.
+// Writes a message to one slot of a page, around the stuck cells that the records name: refusals 1 to 6, 16, 13, 14, 15, then 7 and 9.
 // It is walked by hand, for its `&[StuckCell]`: no branch, two calls.
 pub fn page_write(
     n: u32,
     k: u32,
     l: u32,
     rows: &[Word],
+    number: u32,
     page: &mut [Word],
     records: &[StuckCell],
     slot: u32,
     message: Word,
 ) -> Written
-    ensures { λ r. ⌜ written r ≡ pageWrites (sheet n k l (now (rows .entry))) (now (page .entry)) (now (records .entry)) slot message ⌝ }
-    ensures { λ r. ⌜ now (page .exit) ≡ pageAfter (pageWrites (sheet n k l (now (rows .entry))) (now (page .entry)) (now (records .entry)) slot message) (now (page .entry)) slot ⌝ }
+    ensures { λ r. ⌜ written r ≡ pageWrites (sheet n k l (now (rows .entry))) number (now (page .entry)) (now (records .entry)) slot message ⌝ }
+    ensures { λ r. ⌜ now (page .exit) ≡ pageAfter (pageWrites (sheet n k l (now (rows .entry))) number (now (page .entry)) (now (records .entry)) slot message) (now (page .entry)) slot ⌝ }
 {
     let g = gather(records, slot, n);
-    write_gathered(n, k, l, rows, page, records.len(), g, slot, message)
+    write_gathered(n, k, l, rows, number, page, records.len(), g, slot, message)
 }
 
-// Reads one slot of a page at a radius: refusals 1 to 6, 13 for slots only, 14, then 10, 11 and 12.
+// Reads one slot of a page at a radius: refusals 1 to 6, 16 for the number, 13 for slots only, 14, then 10, 11, 16 for the radius and 12.
 pub fn page_read(
     n: u32,
     k: u32,
     l: u32,
     rows: &[Word],
+    number: u32,
     page: &[Word],
     slot: u32,
     radius: u32,
 ) -> Reading
-    ensures { λ r. ⌜ reading r ≡ pageReads (sheet n k l (now (rows .entry))) (now (page .entry)) slot radius ⌝ }
+    ensures { λ r. ⌜ reading r ≡ pageReads (sheet n k l (now (rows .entry))) number (now (page .entry)) slot radius ⌝ }
 {
-    if let Admission::Refused(why) = admit(n, k, l, rows, page.len() <= MOST_SLOTS) {
+    if let Admission::Refused(why) = admit(n, k, l, rows, number, page.len() <= MOST_SLOTS) {
         return Reading::Refused(why);
     }
     let at = slot as usize;
     if page.len() <= at {
         return Reading::Refused(Refusal::NoSlot);
     }
-    reading::read(n, k, l, rows, page[at], radius)
+    reading::read_slot(n, k, l, rows, number, page[at], radius)
 }

@@ -5,7 +5,7 @@ use Rattle.paper.specs.Page.{mostSlots, mostRecords, pageWrites, pageAfter, pag
 use Rattle.paper.specs.Refusals.{Told}
 use Rattle.paper.specs.declared.StuckCell.{StuckCell}
 use Rattle.text.specs.Bytes.{bytes}
-use Rattle.lines.specs.Arguments.{at, part, sheetIn, behind}
+use Rattle.lines.specs.Arguments.{at, part, sheetIn, behind, arg}
 use Rattle.answers.specs.Answers.{spoken, listed}
 
 -- the code's rooms: of a page and of records one more than there may be
@@ -15,7 +15,7 @@ roomSlots = mostSlots + 1
 abbrev pub roomRecords : ℕ
 roomRecords = mostRecords + 1
 
--- the place of the page's count: behind the sheet stands `number`, which is not looked at
+-- the place of the page's count: behind the sheet stands the page's number, argument 0
 abbrev pub pageAt : List ℕ → ℕ
 pageAt ns = behind ns + 1
 
@@ -46,7 +46,7 @@ recordsEnd ns = pageEnd ns + 1 + 3 * at ns (pageEnd ns)
 
 -- what `pwrite SHEET number LIST RECS slot message` tells
 abbrev pub pageWritten : List ℕ → Told
-pageWritten ns = pageWrites (sheetIn ns) (pageIn ns) (recordsIn ns) (at ns (recordsEnd ns)) (at ns (recordsEnd ns + 1))
+pageWritten ns = pageWrites (sheetIn ns) (arg ns 0) (pageIn ns) (recordsIn ns) (at ns (recordsEnd ns)) (at ns (recordsEnd ns + 1))
 
 -- the page after it
 abbrev pub pageLeft : List ℕ → List ℕ
@@ -58,4 +58,4 @@ pwriteText ns = spoken (bytes "word | d ") (pageWritten ns) ++ listed (bytes " p
 
 -- what `pread SHEET number LIST slot radius` tells
 abbrev pub pageRead : List ℕ → Told
-pageRead ns = pageReads (sheetIn ns) (pageIn ns) (at ns (pageEnd ns)) (at ns (pageEnd ns + 1))
+pageRead ns = pageReads (sheetIn ns) (arg ns 0) (pageIn ns) (at ns (pageEnd ns)) (at ns (pageEnd ns + 1))

@@ -29,6 +29,7 @@ pub fn pread(ns: &[Word]) -> Numbers
     ensures { λ r. ⌜ tells r ≡ pageRead (now (ns .entry)) ⌝ }
 {
     let rows = 4 + ns[3] as usize;
+    let number = ns[rows] as u32;
     let from = rows + 1 + 1;
     let end = from + ns[rows + 1] as usize;
     of_reading(page::page_read(
@@ -36,6 +37,7 @@ pub fn pread(ns: &[Word]) -> Numbers
         ns[1] as u32,
         ns[2] as u32,
         &ns[4..rows],
+        number,
         &ns[from..end],
         ns[end] as u32,
         ns[end + 1] as u32,
@@ -101,6 +103,7 @@ fn write_page(ns: &[Word], page: &mut [Word]) -> Numbers
         ns[1] as u32,
         ns[2] as u32,
         &ns[4..rows],
+        ns[rows] as u32,
         page,
         records,
         held,

@@ -1,4 +1,4 @@
--- A page of names: change request 1.
+-- A page of names: change request 1, and its plate number: change request 6.
 use mathlib.Core.Bool.{Bool, false, cond, not, _&&_, _||_}
 use mathlib.Core.List.{List, [], _∷_}
 use Prim.Native.Nat.{ℕ, _*_, _^_}
@@ -6,10 +6,12 @@ use lib.Bits.{bitOr}
 use lib.Dec.{eqb, leb, ltb}
 use lib.ListN.{length, getD, take, set}
 use Rattle.paper.specs.First.{First, first}
+use Rattle.paper.specs.Words.{width}
 use Rattle.paper.specs.Refusals.{Told, answer, more, refusal, unless, unlessAt}
 use Rattle.paper.specs.Sheet.{Sheet, judged}
 use Rattle.paper.specs.Writing.{fitting, chosen}
-use Rattle.paper.specs.Reading.{readsAdmitted}
+use Rattle.paper.specs.Reading.{mostRadius, strayCell, nearest, heard}
+use Rattle.paper.specs.Plate.{mostCap, measuresD1}
 use Rattle.paper.specs.declared.StuckCell.{StuckCell}
 
 -- "One page holds up to 2,048 words under one sheet"
@@ -53,10 +55,29 @@ abbrev pub levelsBy : List StuckCell → ℕ
 levelsBy [] = 0
 levelsBy (r ∷ rs) = bitOr (r .level * 2 ^ (r .cell)) (levelsBy rs)
 
--- 1 to 6, then 13 unless slots and records are few enough: "Order: 1 to 6, 13, .."
-unfoldable pub paged : Sheet → Bool → Told → Told
+-- request 6: "A page now carries its plate number: d1 as 1 to 8, or 9 for "more than 8"."
+abbrev pub mostNumber : ℕ
+mostNumber = 9
+
+-- the number, of what measuring d1 told
+abbrev pub plateNumber : Told → Told
+plateNumber (answer values) = answer (getD values 0 0 ∷ [])
+plateNumber (more values) = answer (mostNumber ∷ [])
+plateNumber (refusal number given) = refusal number given
+
+-- what opening a page answers: "Opening a page, by the sheet alone, measures with cap 8 and gives that number."
+unfoldable pub opens : Sheet → Told
+unfolding measuresD1
+opens s = plateNumber (measuresD1 s mostCap)
+
+-- 16: "A number outside 1 to 9"
+abbrev pub numbered : ℕ → Bool
+numbered number = leb 1 number && leb number mostNumber
+
+-- 1 to 6, then 16 "for every call on the page, straight after 6", then 13 unless slots and records are few enough: "Order: 1 to 6, 13, .."
+unfoldable pub paged : Sheet → ℕ → Bool → Told → Told
 unfolding judged
-paged s few next = judged s (unless few 13 next)
+paged s number few next = judged s (unless (numbered number) 16 (unless few 13 next))
 
 -- 13: "more than 256 records or 2,048 slots"; a read "gives 13 for slots only"
 abbrev pub fewSlots : List ℕ → Bool
@@ -72,10 +93,10 @@ slotWrites s rs w =
     unlessAt (firstBroken (s .n) rs) 15 0 (unless (ltb w (2 ^ s .k)) 7 (chosen s w (fitting s w (stuckBy rs) (levelsBy rs))))
 
 -- what writing message w to a slot answers: "1 to 6, 13, 14, 15, then 7 and 9"; "records for other slots are not judged"
-unfoldable pub pageWrites : Sheet → List ℕ → List StuckCell → ℕ → ℕ → Told
+unfoldable pub pageWrites : Sheet → ℕ → List ℕ → List StuckCell → ℕ → ℕ → Told
 unfolding paged slotWrites
-pageWrites s page records slot w =
-    paged s (fewSlots page && fewRecords records) (unless (ltb slot (length page)) 14 (slotWrites s (recordsOf slot records) w))
+pageWrites s number page records slot w =
+    paged s number (fewSlots page && fewRecords records) (unless (ltb slot (length page)) 14 (slotWrites s (recordsOf slot records) w))
 
 -- the page after a write that told this: "A refused call .. changes nothing lent, and a write changes only its slot."
 abbrev pub pageAfter : Told → List ℕ → ℕ → List ℕ
@@ -83,7 +104,14 @@ pageAfter (answer values) page slot = set page slot (getD values 0 0)
 pageAfter (more values) page slot = page
 pageAfter (refusal number given) page slot = page
 
+-- a slot that holds y, on an admitted sheet: 10, 11, and "A page read whose radius doubled is not below the number is refusal 16, after 11 and before 12."
+unfoldable pub slotReads : Sheet → ℕ → ℕ → ℕ → Told
+unfolding first nearest
+slotReads s number y t =
+    unlessAt (first width (strayCell (s .n) y)) 10 0 (unless (leb t mostRadius) 11 (unless (ltb (2 * t) number) 16 (heard s y (nearest s y t))))
+
 -- what reading a slot at radius t answers: "a read also gives 10 after 14, doesn't see the records, and gives 13 for slots only"
-unfoldable pub pageReads : Sheet → List ℕ → ℕ → ℕ → Told
-unfolding paged readsAdmitted
-pageReads s page slot t = paged s (fewSlots page) (unless (ltb slot (length page)) 14 (readsAdmitted s (getD page slot 0) t))
+unfoldable pub pageReads : Sheet → ℕ → List ℕ → ℕ → ℕ → Told
+unfolding paged slotReads
+pageReads s number page slot t =
+    paged s number (fewSlots page) (unless (ltb slot (length page)) 14 (slotReads s number (getD page slot 0) t))

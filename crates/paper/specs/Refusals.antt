@@ -4,7 +4,7 @@ use mathlib.Core.List.{List, [], _∷_}
 use Prim.Native.Nat.{ℕ, _+_}
 use Rattle.paper.specs.First.{First, nowhere, at}
 use Rattle.paper.specs.declared.Refusal.{Refusal}
-use Rattle.paper.specs.declared.Refusal.the-variants.{Shape, Stray, OffCode, OffMessage, DependentG0, DependentH, Message, Stuck, NoWord, ReadWord, Limit, NoCodeword, Crowded, NoSlot, Record, OtherShape}
+use Rattle.paper.specs.declared.Refusal.the-variants.{Shape, Stray, OffCode, OffMessage, DependentG0, DependentH, Message, Stuck, NoWord, ReadWord, Limit, NoCodeword, Crowded, NoSlot, Record, Plate, OtherShape}
 use Rattle.paper.specs.declared.Admission.{Admission}
 use Rattle.paper.specs.declared.Admission.the-variants as Admission
 use Rattle.paper.specs.declared.Written.{Written}
@@ -15,6 +15,8 @@ use Rattle.paper.specs.declared.MeasuredD0.{MeasuredD0}
 use Rattle.paper.specs.declared.MeasuredD0.the-variants as MeasuredD0
 use Rattle.paper.specs.declared.MeasuredD1.{MeasuredD1}
 use Rattle.paper.specs.declared.MeasuredD1.the-variants as MeasuredD1
+use Rattle.paper.specs.declared.Opening.{Opening}
+use Rattle.paper.specs.declared.Opening.the-variants as Opening
 use Rattle.paper.specs.declared.Outcome.{Outcome}
 use Rattle.paper.specs.declared.Outcome.the-variants as Outcome
 
@@ -54,6 +56,7 @@ reason (NoCodeword tried) = giving 12 tried
 reason Crowded = bare 13
 reason NoSlot = bare 14
 reason (Record place) = giving 15 place
+reason Plate = bare 16
 reason OtherShape = bare 24
 
 -- "the refusal carries its reason"
@@ -86,6 +89,11 @@ abbrev pub measuredD1 : MeasuredD1 → Told
 measuredD1 (MeasuredD1.Distance d tried radius) = answer (d ∷ tried ∷ radius ∷ [])
 measuredD1 (MeasuredD1.More tried radius) = more (tried ∷ radius ∷ [])
 measuredD1 (MeasuredD1.Refused why) = refused why
+
+-- what opening a page tells: its plate number
+abbrev pub opening : Opening → Told
+opening (Opening.Number number) = answer (number ∷ [])
+opening (Opening.Refused why) = refused why
 
 -- what a call tells whose answer stands in the rooms that it was lent
 abbrev pub outcome : Outcome → Told

@@ -22,6 +22,9 @@ pub const MOST_SLOTS: usize = 2048;
 // The most records of stuck cells: `mostRecords` of specs/Page.antt.
 pub const MOST_RECORDS: usize = 256;
 
+// The largest plate number, which says that d1 is more than the largest cap: `mostNumber` of specs/Page.antt.
+pub const MOST_NUMBER: u32 = 9;
+
 // A record of the list in which a page's stuck cells arrive: "each naming slot, cell and level".
 pub struct StuckCell {
     pub slot: u32,
@@ -46,6 +49,7 @@ pub enum Refusal {
     Crowded,
     NoSlot,
     Record { place: usize },
+    Plate,
     OtherShape,
 }
 
@@ -82,6 +86,12 @@ pub enum MeasuredD0 {
 pub enum MeasuredD1 {
     Distance { d: u32, tried: Count, radius: u32 },
     More { tried: Count, radius: u32 },
+    Refused(Refusal),
+}
+
+// What opening a page answers: its plate number.
+pub enum Opening {
+    Number { number: u32 },
     Refused(Refusal),
 }
 

@@ -17,6 +17,7 @@ pub mod PagePinned
 pub mod Pages
 pub mod PageRecords
 pub mod PageDemands
+pub mod PagePlate
 pub mod PageRepeats
 pub mod PageBench
 pub mod Alike

@@ -15,14 +15,15 @@ use Rattle.paper.specs.First.{First, nowhere, at}
 use Rattle.paper.specs.Refusals.{refusal}
 use Rattle.paper.specs.Sheet.{Sheet, Admitted}
 use Rattle.paper.specs.Writing.{writes}
-use Rattle.paper.specs.Page.{mostSlots, mostRecords, recordsOf, disagrees, breaks, noRecord, firstBroken, stuckBy, levelsBy, paged, pageWrites}
+use Rattle.paper.specs.Page.{mostSlots, mostRecords, mostNumber, numbered, recordsOf, disagrees, breaks, noRecord, firstBroken, stuckBy, levelsBy, paged, pageWrites}
 use Rattle.paper.specs.declared.StuckCell.{StuckCell}
 use Rattle.words.proofs.Cells.{cell-or, ext-all}
 use Rattle.records.proofs.Lists.{records-append, record-own, record-other, stuck-append, levels-append, disagrees-append}
+use Rattle.rules.proofs.Both.{both, outside}
 use Rattle.rules.proofs.Rules.{isRefusal, not-told}
 use Rattle.sheet.proofs.Verdicts.{on-admitted}
 use Rattle.promises.proofs.Tests.{fails}
-use Rattle.promises.proofs.PageOrder.{page-write-13, page-write-14, page-write-15}
+use Rattle.promises.proofs.PageOrder.{page-write-16, page-write-13, page-write-14, page-write-15}
 use Rattle.promises.proofs.PageDemands.{write-is-base}
 use Rattle.promises.proofs.PageRecords.{disagrees-when, breaks-when, broken-at, broken-nowhere, none-disagrees}
 
@@ -181,7 +182,7 @@ module _ (slot : ℕ) (xs ys zs : List StuckCell) (r : StuckCell) where
         ap levelsBy again ∙ levels-again us vs r ws ∙ ap levelsBy (sym once),
       )
 
-module _ (s : Sheet) (page : List ℕ) (slot w : ℕ) where
+module _ (s : Sheet) (number : ℕ) (page : List ℕ) (slot w : ℕ) where
   module _ (xs ys zs : List StuckCell) (r : StuckCell) where
     abbrev once : List StuckCell
     once = (xs ++ r ∷ ys) ++ zs
@@ -193,36 +194,45 @@ module _ (s : Sheet) (page : List ℕ) (slot w : ℕ) where
     longer = omega (arith, length-append (xs ++ r ∷ ys) (r ∷ zs), length-append (xs ++ r ∷ ys) zs)
 
     -- "Equal records count once": with a record that stands again, and without, a page write tells the same, unless 13 is told with it or 15 without it
-    pub repeated-once : isRefusal 13 (pageWrites s page ((xs ++ r ∷ ys) ++ r ∷ zs) slot w) ≡ false
-        → isRefusal 15 (pageWrites s page ((xs ++ r ∷ ys) ++ zs) slot w) ≡ false
-        → pageWrites s page ((xs ++ r ∷ ys) ++ r ∷ zs) slot w ≡ pageWrites s page ((xs ++ r ∷ ys) ++ zs) slot w
+    pub repeated-once : isRefusal 13 (pageWrites s number page ((xs ++ r ∷ ys) ++ r ∷ zs) slot w) ≡ false
+        → isRefusal 15 (pageWrites s number page ((xs ++ r ∷ ys) ++ zs) slot w) ≡ false
+        → pageWrites s number page ((xs ++ r ∷ ys) ++ r ∷ zs) slot w ≡ pageWrites s number page ((xs ++ r ∷ ys) ++ zs) slot w
     unfolding pageWrites paged
-    repeated-once h13 h15 = on-admitted s _ _ (λ ok. few ok (decLt mostSlots (length page)) (decLt mostRecords (length again)))
+    repeated-once h13 h15 = on-admitted s _ _ (λ ok. numbers ok (numbered number) refl)
       where
-        written : (ok : Admitted s) → length page ≤ mostSlots → length again ≤ mostRecords → slot < length page
-            → (f : First) → firstBroken (s .n) (recordsOf slot once) ≡ f → pageWrites s page again slot w ≡ pageWrites s page once slot w
-        written ok slots list here (at i) e = not-told (sym (page-write-15 s page once slot w i .1 (ok, (slots, omega (arith, longer)), here, e))) h15
-        written ok slots list here nowhere e =
+        Good : Type 0
+        Good = Admitted s × ((1 ≤ number) × (number ≤ mostNumber))
+
+        written : Good → length page ≤ mostSlots → length again ≤ mostRecords → slot < length page
+            → (f : First) → firstBroken (s .n) (recordsOf slot once) ≡ f → pageWrites s number page again slot w ≡ pageWrites s number page once slot w
+        written good slots list here (at i) e =
+            not-told (sym (page-write-15 s number page once slot w i .1 (good .0, good .1, (slots, omega (arith, longer)), (here, e)))) h15
+        written good slots list here nowhere e =
             let q = gathered-again slot xs ys zs r (s .n) (ℕ-discrete (r .slot) slot) e in
-            write-is-base s page again slot w slots list here (q .0) ∙ ap₂ (writes s w) (q .1) (q .2)
-            ∙ sym (write-is-base s page once slot w slots (omega (arith, longer)) here e)
+            write-is-base s number page again slot w (good .1) slots list here (q .0) ∙ ap₂ (writes s w) (q .1) (q .2)
+            ∙ sym (write-is-base s number page once slot w (good .1) slots (omega (arith, longer)) here e)
 
-        slotted : (ok : Admitted s) → length page ≤ mostSlots → length again ≤ mostRecords → Dec (slot < length page)
-            → pageWrites s page again slot w ≡ pageWrites s page once slot w
-        slotted ok slots list (yes here) = written ok slots list here (firstBroken (s .n) (recordsOf slot once)) refl
-        slotted ok slots list (no out) =
-            page-write-14 s page again slot w .1 (ok, (slots, list), omega arith)
-            ∙ sym (page-write-14 s page once slot w .1 (ok, (slots, omega (arith, longer)), omega arith))
+        slotted : Good → length page ≤ mostSlots → length again ≤ mostRecords → Dec (slot < length page)
+            → pageWrites s number page again slot w ≡ pageWrites s number page once slot w
+        slotted good slots list (yes here) = written good slots list here (firstBroken (s .n) (recordsOf slot once)) refl
+        slotted good slots list (no out) =
+            page-write-14 s number page again slot w .1 (good .0, good .1, (slots, list), omega arith)
+            ∙ sym (page-write-14 s number page once slot w .1 (good .0, good .1, (slots, omega (arith, longer)), omega arith))
 
-        few : (ok : Admitted s) → Dec (mostSlots < length page) → Dec (mostRecords < length again)
-            → pageWrites s page again slot w ≡ pageWrites s page once slot w
-        few ok (yes p) q = not-told (sym (page-write-13 s page again slot w .1 (ok, inr p))) h13
-        few ok (no p) (yes q) = not-told (sym (page-write-13 s page again slot w .1 (ok, inl q))) h13
-        few ok (no p) (no q) = slotted ok (omega arith) (omega arith) (decLt slot (length page))
+        few : Good → Dec (mostSlots < length page) → Dec (mostRecords < length again) → pageWrites s number page again slot w ≡ pageWrites s number page once slot w
+        few good (yes p) q = not-told (sym (page-write-13 s number page again slot w .1 (good .0, good .1, inr p))) h13
+        few good (no p) (yes q) = not-told (sym (page-write-13 s number page again slot w .1 (good .0, good .1, inl q))) h13
+        few good (no p) (no q) = slotted good (omega arith) (omega arith) (decLt slot (length page))
+
+        numbers : Admitted s → (b : Bool) → numbered number ≡ b → pageWrites s number page again slot w ≡ pageWrites s number page once slot w
+        numbers ok true e = few (ok, both 1 number number mostNumber .0 e) (decLt mostSlots (length page)) (decLt mostRecords (length again))
+        numbers ok false e =
+            let out = outside mostNumber number .0 e in
+            page-write-16 s number page again slot w .1 (ok, out) ∙ sym (page-write-16 s number page once slot w .1 (ok, out))
 
     -- where 15 is told without it, 15 is told with it: the place is "among this slot's records", and so one further behind it
     module _ (own : r .slot ≡ slot) (i : ℕ) (list : length ((xs ++ r ∷ ys) ++ r ∷ zs) ≤ mostRecords)
-        (told : pageWrites s page ((xs ++ r ∷ ys) ++ zs) slot w ≡ refusal 15 (i ∷ [])) where
+        (told : pageWrites s number page ((xs ++ r ∷ ys) ++ zs) slot w ≡ refusal 15 (i ∷ [])) where
       -- this slot's records up to where it stands again, and those behind
       abbrev us : List StuckCell
       us = recordsOf slot xs ++ r ∷ recordsOf slot ys
@@ -236,15 +246,15 @@ module _ (s : Sheet) (page : List ℕ) (slot w : ℕ) where
           (records-append slot xs (r ∷ ys) ∙ ap (λ (v : List StuckCell). recordsOf slot xs ++ v) (record-own slot r ys own))
 
       without : firstBroken (s .n) (us ++ vs) ≡ at i
-      without = ap (firstBroken (s .n)) (sym (own-parts slot xs ys zs r own zs)) ∙ page-write-15 s page once slot w i .0 told .3
+      without = ap (firstBroken (s .n)) (sym (own-parts slot xs ys zs r own zs)) ∙ page-write-15 s number page once slot w i .0 told .3 .1
 
-      with : (j : ℕ) → firstBroken (s .n) (us ++ r ∷ vs) ≡ at j → pageWrites s page again slot w ≡ refusal 15 (j ∷ [])
+      with : (j : ℕ) → firstBroken (s .n) (us ++ r ∷ vs) ≡ at j → pageWrites s number page again slot w ≡ refusal 15 (j ∷ [])
       with j e =
-          let p = page-write-15 s page once slot w i .0 told in
-          page-write-15 s page again slot w j .1 (p .0, (p .1 .0, list), p .2, ap (firstBroken (s .n)) (own-again slot xs ys zs r own) ∙ e)
+          let p = page-write-15 s number page once slot w i .0 told in
+          page-write-15 s number page again slot w j .1 (p .0, p .1, (p .2 .0, list), (p .3 .0, ap (firstBroken (s .n)) (own-again slot xs ys zs r own) ∙ e))
 
-      pub repeated-front : i < length (recordsOf slot (xs ++ r ∷ ys)) → pageWrites s page ((xs ++ r ∷ ys) ++ r ∷ zs) slot w ≡ refusal 15 (i ∷ [])
+      pub repeated-front : i < length (recordsOf slot (xs ++ r ∷ ys)) → pageWrites s number page ((xs ++ r ∷ ys) ++ r ∷ zs) slot w ≡ refusal 15 (i ∷ [])
       repeated-front l = with i (front-again (recordsOf slot xs) (recordsOf slot ys) r (s .n) vs i without (omega (arith, count)))
 
-      pub repeated-behind : length (recordsOf slot (xs ++ r ∷ ys)) ≤ i → pageWrites s page ((xs ++ r ∷ ys) ++ r ∷ zs) slot w ≡ refusal 15 ((i + 1) ∷ [])
+      pub repeated-behind : length (recordsOf slot (xs ++ r ∷ ys)) ≤ i → pageWrites s number page ((xs ++ r ∷ ys) ++ r ∷ zs) slot w ≡ refusal 15 ((i + 1) ∷ [])
       repeated-behind l = with (i + 1) (behind-again (recordsOf slot xs) (recordsOf slot ys) r (s .n) vs i without (omega (arith, count)))

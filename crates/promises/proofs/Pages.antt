@@ -1,15 +1,16 @@
 -- Request 1: "What other slots hold and the records for them never change my answer; only the lengths of page and list do, through 13 and 14", and what a call changes.
--- So stations that share a page do not meet there. Assumes nothing.
+-- So stations that share a page do not meet there. The number that request 6 hands in changes an answer through 16 alone. Assumes nothing.
 use mathlib.Core.Path.{_≡_, refl, sym, ap, _∙_}
 use mathlib.Core.List.{List, _∷_, _++_}
-use Prim.Native.Nat.{ℕ, _≤_, _<_}
+use Prim.Native.Nat.{ℕ, _*_, _≤_, _<_}
 use borrow.Author.Tests.{le-leb, lt-ltb}
 use lib.ListN.{length, getD, length-set}
 use lib.Seq.{getD-set-other}
 use Rattle.paper.specs.Refusals.{Told, answer, more, refusal}
 use Rattle.paper.specs.Sheet.{Sheet}
-use Rattle.paper.specs.Page.{mostSlots, mostRecords, recordsOf, pageWrites, pageAfter, pageReads}
+use Rattle.paper.specs.Page.{mostSlots, mostRecords, mostNumber, recordsOf, paged, pageWrites, pageAfter, slotReads, pageReads}
 use Rattle.paper.specs.declared.StuckCell.{StuckCell}
+use Rattle.rules.proofs.Both.{both}
 use Rattle.records.proofs.Lists.{records-append, record-other}
 
 -- ---- this slot's records
@@ -23,16 +24,16 @@ other-record slot rs rs′ r r′ ne ne′ =
 
 -- ---- "never change my answer"
 
-module _ (s : Sheet) (page page′ : List ℕ) (slot : ℕ) where
+module _ (s : Sheet) (number : ℕ) (page page′ : List ℕ) (slot : ℕ) where
   -- a write goes by its slot's records and the two lengths
   pub write-independent : (records records′ : List StuckCell) (w : ℕ)
       → length page ≡ length page′ → length records ≡ length records′ → recordsOf slot records ≡ recordsOf slot records′
-      → pageWrites s page records slot w ≡ pageWrites s page′ records′ slot w
+      → pageWrites s number page records slot w ≡ pageWrites s number page′ records′ slot w
   unfolding pageWrites
   write-independent records records′ w p q e = rw (p, q, e)
 
   -- a read goes by what its slot holds and the page's length
-  pub read-independent : (t : ℕ) → length page ≡ length page′ → getD page slot 0 ≡ getD page′ slot 0 → pageReads s page slot t ≡ pageReads s page′ slot t
+  pub read-independent : (t : ℕ) → length page ≡ length page′ → getD page slot 0 ≡ getD page′ slot 0 → pageReads s number page slot t ≡ pageReads s number page′ slot t
   unfolding pageReads
   read-independent t p e = rw (p, e)
 
@@ -40,7 +41,7 @@ module _ (s : Sheet) (page page′ : List ℕ) (slot : ℕ) where
   module _ (few : length page ≤ mostSlots) (few′ : length page′ ≤ mostSlots) (there : slot < length page) (there′ : slot < length page′) where
     pub write-lengths : (records records′ : List StuckCell) (w : ℕ)
         → length records ≤ mostRecords → length records′ ≤ mostRecords → recordsOf slot records ≡ recordsOf slot records′
-        → pageWrites s page records slot w ≡ pageWrites s page′ records′ slot w
+        → pageWrites s number page records slot w ≡ pageWrites s number page′ records′ slot w
     unfolding pageWrites
     write-lengths records records′ w q q′ e =
         rw (
@@ -53,7 +54,7 @@ module _ (s : Sheet) (page page′ : List ℕ) (slot : ℕ) where
           e,
         )
 
-    pub read-lengths : (t : ℕ) → getD page slot 0 ≡ getD page′ slot 0 → pageReads s page slot t ≡ pageReads s page′ slot t
+    pub read-lengths : (t : ℕ) → getD page slot 0 ≡ getD page′ slot 0 → pageReads s number page slot t ≡ pageReads s number page′ slot t
     unfolding pageReads
     read-lengths t e =
         rw (
@@ -63,6 +64,23 @@ module _ (s : Sheet) (page page′ : List ℕ) (slot : ℕ) where
           lt-ltb slot (length page′) there′,
           e,
         )
+
+-- ---- the number: past 16, another number changes nothing
+
+module _ (s : Sheet) (number number′ : ℕ) (page : List ℕ) (slot : ℕ) (good : (1 ≤ number) × (number ≤ mostNumber)) (good′ : (1 ≤ number′) × (number′ ≤ mostNumber)) where
+  pub write-numbers : (records : List StuckCell) (w : ℕ) → pageWrites s number page records slot w ≡ pageWrites s number′ page records slot w
+  unfolding pageWrites paged
+  write-numbers records w = rw (both 1 number number mostNumber .1 good, both 1 number′ number′ mostNumber .1 good′)
+
+  pub read-numbers : (t : ℕ) → 2 * t < number → 2 * t < number′ → pageReads s number page slot t ≡ pageReads s number′ page slot t
+  unfolding pageReads paged slotReads
+  read-numbers t near near′ =
+      rw (
+        both 1 number number mostNumber .1 good,
+        both 1 number′ number′ mostNumber .1 good′,
+        lt-ltb (2 * t) number near,
+        lt-ltb (2 * t) number′ near′,
+      )
 
 -- ---- what a write changes, whatever it told
 
@@ -83,9 +101,9 @@ module _ (page : List ℕ) (slot : ℕ) where
   refused-kept told number given e = ap (λ (t : Told). pageAfter t page slot) e
 
 -- so a station's write to another slot changes no read of this one, and no write
-module _ (s : Sheet) (page : List ℕ) (j : ℕ) (told : Told) (slot : ℕ) where
-  pub read-shared : (slot ≡ j → ⊥) → (t : ℕ) → pageReads s (pageAfter told page j) slot t ≡ pageReads s page slot t
-  read-shared ne t = read-independent s (pageAfter told page j) page slot t (length-kept page j told) (others-kept page j told slot ne)
+module _ (s : Sheet) (number : ℕ) (page : List ℕ) (j : ℕ) (told : Told) (slot : ℕ) where
+  pub read-shared : (slot ≡ j → ⊥) → (t : ℕ) → pageReads s number (pageAfter told page j) slot t ≡ pageReads s number page slot t
+  read-shared ne t = read-independent s number (pageAfter told page j) page slot t (length-kept page j told) (others-kept page j told slot ne)
 
-  pub write-shared : (records : List StuckCell) (w : ℕ) → pageWrites s (pageAfter told page j) records slot w ≡ pageWrites s page records slot w
-  write-shared records w = write-independent s (pageAfter told page j) page slot records records w (length-kept page j told) refl refl
+  pub write-shared : (records : List StuckCell) (w : ℕ) → pageWrites s number (pageAfter told page j) records slot w ≡ pageWrites s number page records slot w
+  write-shared records w = write-independent s number (pageAfter told page j) page slot records records w (length-kept page j told) refl refl

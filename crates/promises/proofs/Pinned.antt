@@ -4,7 +4,7 @@ use mathlib.Core.Path.{_≡_, refl, sym, ap, _∙_}
 use mathlib.Core.List.{List}
 use Prim.Native.Nat.{ℕ}
 use lib.ListN.{getD}
-use Rattle.paper.specs.Refusals.{Told, answer, more, refusal, admission, written, reading, measuredD0, measuredD1, outcome}
+use Rattle.paper.specs.Refusals.{Told, answer, more, refusal, admission, written, reading, measuredD0, measuredD1, opening, outcome}
 use Rattle.paper.specs.Sheet.{Sheet, admits}
 use Rattle.paper.specs.Writing.{writes}
 use Rattle.paper.specs.Reading.{reads}
@@ -19,6 +19,8 @@ use Rattle.paper.specs.declared.MeasuredD0.{MeasuredD0}
 use Rattle.paper.specs.declared.MeasuredD0.the-variants as MeasuredD0
 use Rattle.paper.specs.declared.MeasuredD1.{MeasuredD1}
 use Rattle.paper.specs.declared.MeasuredD1.the-variants as MeasuredD1
+use Rattle.paper.specs.declared.Opening.{Opening}
+use Rattle.paper.specs.declared.Opening.the-variants as Opening
 use Rattle.paper.specs.declared.Outcome.{Outcome}
 use Rattle.paper.specs.declared.Outcome.the-variants as Outcome
 use Rattle.rules.proofs.Reasons.{reasonOf, told-back}
@@ -56,6 +58,11 @@ measuredD1-back (answer values) = MeasuredD1.Distance (at values 0) (at values 1
 measuredD1-back (more values) = MeasuredD1.More (at values 0) (at values 1)
 measuredD1-back (refusal number given) = MeasuredD1.Refused (reasonOf number given)
 
+opening-back : Told → Opening
+opening-back (answer values) = Opening.Number (at values 0)
+opening-back (more values) = Opening.Number 0
+opening-back (refusal number given) = Opening.Refused (reasonOf number given)
+
 outcome-back : Told → Outcome
 outcome-back (answer values) = Outcome.Done
 outcome-back (more values) = Outcome.Done
@@ -76,17 +83,25 @@ unfolding reading-back
 reading-told (Reading.Message message z tried) = refl
 reading-told (Reading.Refused why) = ap Reading.Refused (told-back why)
 
+opening-told : (a : Opening) → opening-back (opening a) ≡ a
+unfolding opening-back
+opening-told (Opening.Number number) = refl
+opening-told (Opening.Refused why) = ap Opening.Refused (told-back why)
+
 outcome-told : (a : Outcome) → outcome-back (outcome a) ≡ a
 unfolding outcome-back
 outcome-told Outcome.Done = refl
 outcome-told (Outcome.Refused why) = ap Outcome.Refused (told-back why)
 
--- so for writing, reading and calls that answer in lent rooms, whatever is told
+-- so for writing, reading, opening and calls that answer in lent rooms, whatever is told
 pub written-once : (t : Told) (a b : Written) → written a ≡ t → written b ≡ t → a ≡ b
 written-once = same written written-back written-told
 
 pub reading-once : (t : Told) (a b : Reading) → reading a ≡ t → reading b ≡ t → a ≡ b
 reading-once = same reading reading-back reading-told
+
+pub opening-once : (t : Told) (a b : Opening) → opening a ≡ t → opening b ≡ t → a ≡ b
+opening-once = same opening opening-back opening-told
 
 pub outcome-once : (t : Told) (a b : Outcome) → outcome a ≡ t → outcome b ≡ t → a ≡ b
 outcome-once = same outcome outcome-back outcome-told

@@ -6,13 +6,13 @@ use Prim.Native.Nat.{ℕ}
 use lib.ListN.{getD}
 use Rattle.paper.specs.Refusals.{reason}
 use Rattle.paper.specs.declared.Refusal.{Refusal}
-use Rattle.paper.specs.declared.Refusal.the-variants.{Shape, Stray, OffCode, OffMessage, DependentG0, DependentH, Message, Stuck, NoWord, ReadWord, Limit, NoCodeword, Crowded, NoSlot, Record, OtherShape}
+use Rattle.paper.specs.declared.Refusal.the-variants.{Shape, Stray, OffCode, OffMessage, DependentG0, DependentH, Message, Stuck, NoWord, ReadWord, Limit, NoCodeword, Crowded, NoSlot, Record, Plate, OtherShape}
 
 -- the reasons by their numbers, from 0 on; the first stands in for a number that none has
 reasons : ℕ → List Refusal
 reasons given =
     Shape ∷ Shape ∷ Stray given ∷ OffCode given ∷ OffMessage given ∷ DependentG0 given ∷ DependentH given ∷ Message ∷ Stuck given ∷ NoWord
-    ∷ ReadWord given ∷ Limit ∷ NoCodeword given ∷ Crowded ∷ NoSlot ∷ Record given ∷ Shape ∷ Shape ∷ Shape ∷ Shape ∷ Shape ∷ Shape ∷ Shape ∷ Shape
+    ∷ ReadWord given ∷ Limit ∷ NoCodeword given ∷ Crowded ∷ NoSlot ∷ Record given ∷ Plate ∷ Shape ∷ Shape ∷ Shape ∷ Shape ∷ Shape ∷ Shape ∷ Shape
     ∷ OtherShape ∷ []
 
 -- the reason of a number and of what is given with it
@@ -36,4 +36,5 @@ told-back (NoCodeword tried) = refl
 told-back Crowded = refl
 told-back NoSlot = refl
 told-back (Record place) = refl
+told-back Plate = refl
 told-back OtherShape = refl

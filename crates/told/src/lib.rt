@@ -1,12 +1,13 @@
 // What the calls tell, as one struct of numbers: for the console, and for C, where an enum cannot pass.
 ghost use mathlib.Core.Path.{_≡_};
 ghost use mathlib.Core.List.{[], _∷_};
-ghost use Rattle.paper.specs.Refusals.{answer, more, refusal, refused, admission, written, reading, measuredD0, measuredD1, outcome};
+ghost use Rattle.paper.specs.Refusals.{answer, more, refusal, refused, admission, written, reading, measuredD0, measuredD1, opening, outcome};
 ghost use Rattle.told.specs.Telling.{tells};
 use paper::Admission;
 use paper::Count;
 use paper::MeasuredD0;
 use paper::MeasuredD1;
+use paper::Opening;
 use paper::Outcome;
 use paper::Reading;
 use paper::Refusal;
@@ -89,6 +90,20 @@ fn done() -> Numbers
         number: 0,
         count: 0,
         a: 0,
+        b: 0,
+        c: 0,
+    }
+}
+
+// A page's plate number.
+fn of_number(number: u32) -> Numbers
+    ensures { λ r. ⌜ tells r ≡ answer (number ∷ []) ⌝ }
+{
+    Numbers {
+        kind: 0,
+        number: 0,
+        count: 1,
+        a: number as u64,
         b: 0,
         c: 0,
     }
@@ -198,6 +213,7 @@ pub fn of_refusal(why: Refusal) -> Numbers
         Refusal::Crowded => bare(13),
         Refusal::NoSlot => bare(14),
         Refusal::Record { place } => giving_index(15, place),
+        Refusal::Plate => bare(16),
         Refusal::OtherShape => bare(24),
     }
 }
@@ -251,6 +267,16 @@ pub fn of_d1(answer: MeasuredD1) -> Numbers
         MeasuredD1::Distance { d, tried, radius } => of_plate(d, tried, radius),
         MeasuredD1::More { tried, radius } => more_plate(tried, radius),
         MeasuredD1::Refused(why) => of_refusal(why),
+    }
+}
+
+// What opening a page tells.
+pub fn of_opening(answer: Opening) -> Numbers
+    ensures { λ r. ⌜ tells r ≡ opening answer ⌝ }
+{
+    match answer {
+        Opening::Number { number } => of_number(number),
+        Opening::Refused(why) => of_refusal(why),
     }
 }
 

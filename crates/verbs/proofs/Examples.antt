@@ -2,11 +2,13 @@
 -- They show a verb's labels, a refusal with its place, a page or rooms behind an answer, and numbers that their places do not hold.
 use mathlib.Core.Path.{_≡_, refl}
 use lib.Count.{ones}
-use Rattle.paper.specs.Words.{sum}
+use Rattle.paper.specs.Words.{products, sum}
+use Rattle.paper.specs.Listing.{listed, weights, search}
 use Rattle.paper.specs.Sheet.{judged}
 use Rattle.paper.specs.Writing.{writes}
 use Rattle.paper.specs.First.{first}
-use Rattle.paper.specs.Page.{firstBroken, paged, slotWrites, pageWrites}
+use Rattle.paper.specs.Plate.{searchD1, measuresAdmittedD1, measuresD1}
+use Rattle.paper.specs.Page.{opens, firstBroken, paged, slotWrites, pageWrites, pageReads}
 use Rattle.paper.specs.Tables.{each, column, built, buildsSized, builds, givesAdmitted, gives}
 use Rattle.text.specs.Bytes.{bytes}
 use Rattle.text.specs.Tokens.{cut, same, upTo}
@@ -29,6 +31,15 @@ place = refl
 page : reply (asked table (bytes "pwrite 3 1 2 4 1 3 5 7 9 2 0 7 1 0 1 1 0 1")) ≡ bytes "word 2 d 1 page 2 2 7\n"
 unfolding cut asked comes spelled lookup same fill numeral valued judged paged pageWrites slotWrites firstBroken first recordsFrom labelled spaced upTo digitsOf ones sum
 page = refl
+
+-- a page's number, and one that is none
+plate : reply (asked table (bytes "open 3 1 2 4 1 3 5 7")) ≡ bytes "number 1\n"
+unfolding cut asked comes spelled lookup same fill numeral valued judged opens measuresD1 measuresAdmittedD1 searchD1 weights listed search products labelled upTo digitsOf ones sum
+plate = refl
+
+plateless : reply (asked table (bytes "pread 3 1 2 4 1 3 5 7 10 2 0 7 0 0")) ≡ bytes "refused 16\n"
+unfolding cut asked comes spelled lookup same fill numeral valued judged paged pageReads labelled upTo digitsOf ones sum
+plateless = refl
 
 room : reply (asked table (bytes "tosheet 3 1 2 1 0 2 1 1 2 0 0 4 9")) ≡ bytes "done room 4 1 3 5 7\n"
 unfolding cut asked comes spelled lookup same fill numeral valued builds buildsSized built each column first labelled spaced upTo digitsOf ones sum

@@ -6,6 +6,7 @@ use Rattle.paper.specs.Sheet.{admits}
 use Rattle.paper.specs.Writing.{writes}
 use Rattle.paper.specs.Reading.{reads}
 use Rattle.paper.specs.Plate.{measuresD0, measuresD1}
+use Rattle.paper.specs.Page.{opens}
 use Rattle.text.specs.Bytes.{bytes}
 use Rattle.lines.specs.Arguments.{sheetIn, arg}
 use Rattle.lines.specs.Lines.{Asked, silent, unknown, call}
@@ -16,7 +17,7 @@ use Rattle.tableverbs.specs.Tabling.{tosheetText, totablesText}
 
 -- the verbs, each with its shape
 abbrev pub table : List ℕ
-table = bytes "admit nnnL write nnnLwww read nnnLwn d0 nnnLn d1 nnnLn pwrite nnnLnLRnw pread nnnLnLnn tosheet nnnLLLmw totables nnnLmwmwmw"
+table = bytes "admit nnnL write nnnLwww read nnnLwn d0 nnnLn d1 nnnLn pwrite nnnLnLRnw pread nnnLnLnn tosheet nnnLLLmw totables nnnLmwmwmw open nnnL"
 
 -- the text of each verb's answer, in the order of the table: what the call's definition tells, spoken
 abbrev pub verbs : List (List ℕ → List ℕ)
@@ -30,6 +31,7 @@ verbs =
     ∷ (λ ns. spoken (bytes "message | z | tried ") (pageRead ns))
     ∷ (λ ns. tosheetText ns)
     ∷ (λ ns. totablesText ns)
+    ∷ (λ ns. spoken (bytes "number ") (opens (sheetIn ns)))
     ∷ []
 
 -- the text of the answer to a verb's call

@@ -12,6 +12,7 @@ use told::Numbers;
 use told::of_admission;
 use told::of_d0;
 use told::of_d1;
+use told::of_opening;
 use told::of_reading;
 use told::of_written;
 ghost use Prim.Native.Nat.{_+_, _*_, _≤_, _<_};
@@ -21,6 +22,7 @@ ghost use Rattle.paper.specs.Sheet.{admits};
 ghost use Rattle.paper.specs.Writing.{writes};
 ghost use Rattle.paper.specs.Reading.{reads};
 ghost use Rattle.paper.specs.Plate.{measuresD0, measuresD1};
+ghost use Rattle.paper.specs.Page.{opens};
 ghost use Rattle.text.specs.Bytes.{bytes};
 ghost use Rattle.text.specs.Tokens.{cut};
 ghost use Rattle.text.specs.Puts.{Put};
@@ -102,6 +104,15 @@ fn d1(ns: &[Word]) -> Numbers
     ))
 }
 
+// `open SHEET`.
+fn open_page(ns: &[Word]) -> Numbers
+    requires { ⌜ Stands (bytes "nnnL") 0 (now ns) ⌝ }
+    ensures { λ r. ⌜ tells r ≡ opens (sheetIn (now (ns .entry))) ⌝ }
+{
+    let at = 4 + ns[3] as usize;
+    of_opening(page::open_page(ns[0] as u32, ns[1] as u32, ns[2] as u32, &ns[4..at]))
+}
+
 // Puts the text of the answer to a verb's call.
 pub fn reply(verb: usize, ns: &[Word], out: &mut [u8]) -> usize
     requires { ⌜ Stands (shapeAt (cut 32 table) verb) 0 (now ns) ⌝ }
@@ -119,6 +130,7 @@ pub fn reply(verb: usize, ns: &[Word], out: &mut [u8]) -> usize
         6 => say(out, 0, b"message | z | tried ", pread(ns)),
         7 => tosheet(ns, out),
         8 => totables(ns, out),
+        9 => say(out, 0, b"number ", open_page(ns)),
         _ => 0,
     }
 }
@@ -132,7 +144,7 @@ pub fn ask(line: &[u8], ns: &mut [Word]) -> Line
 {
     parse(
         line,
-        b"admit nnnL write nnnLwww read nnnLwn d0 nnnLn d1 nnnLn pwrite nnnLnLRnw pread nnnLnLnn tosheet nnnLLLmw totables nnnLmwmwmw",
+        b"admit nnnL write nnnLwww read nnnLwn d0 nnnLn d1 nnnLn pwrite nnnLnLRnw pread nnnLnLnn tosheet nnnLLLmw totables nnnLmwmwmw open nnnL",
         ns,
     )
 }

@@ -11,7 +11,7 @@ use Rattle.paper.specs.Page.{mostSlots, pageAfter}
 use Rattle.text.specs.Bytes.{bytes}
 use Rattle.text.specs.Puts.{Put}
 use Rattle.text.proofs.Puts.{put-text, put-join}
-use Rattle.lines.specs.Arguments.{at, sheetIn}
+use Rattle.lines.specs.Arguments.{at, sheetIn, arg}
 use Rattle.answers.specs.Answers.{spoken, listed}
 use Rattle.pageverbs.specs.Pages.{roomSlots, pageAt, pageEnd, pageIn, recordsIn, recordsEnd, pageWritten, pageLeft}
 use Rattle.pageverbs.proofs.Lists.{words-clipped, page-slots}
@@ -112,7 +112,7 @@ returns-2 c =
     let ns = line c15 in
     let slots = page-slots ns (within c15) in
     let list = c2 .say-list2 .ensures in
-    let same = crowded (sheetIn ns) (at ns (recordsEnd ns)) (at ns (recordsEnd ns + 1)) (pageIn ns) (recordsIn ns) (omega (arith, slots)) in (
+    let same = crowded (sheetIn ns) (arg ns 0) (at ns (recordsEnd ns)) (at ns (recordsEnd ns + 1)) (pageIn ns) (recordsIn ns) (omega (arith, slots)) in (
       put-join (said c9) (put-text (ap (listed (bytes " page ")) same) (list .0)),
       omega (arith, list .1, slots, within c15, c9 .say .ensures .1),
     )

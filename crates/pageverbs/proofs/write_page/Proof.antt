@@ -21,11 +21,11 @@ copy-records-requires c κs =
 returns : tie.Need-returns
 returns c =
     let c3 = c .before .before .before in
-    let c11 = c3 .before .before .before .before .before .before .before .before in
-    let c18 = c11 .before .before .before .before .before .before .before in
-    let a = c18 .args in
+    let c12 = c3 .before .before .before .before .before .before .before .before .before in
+    let c19 = c12 .before .before .before .before .before .before .before in
+    let a = c19 .args in
     let ns = a .ns .now in
-    let same = written-clipped ns (a .page .now) _ (c11 .before .smaller .result) (c18 .pre .1) (c11 .before .smaller .ensures) (c11 .copy-records .ensures) in
+    let same = written-clipped ns (a .page .now) _ (c12 .before .smaller .result) (c19 .pre .1) (c12 .before .smaller .ensures) (c12 .copy-records .ensures) in
     let left = c3 .page-write .ensures in
     (c .of-written .ensures ∙ left .0 ∙ same, left .1 ∙ ap (λ (t : Told). pageAfter t (a .page .now) (at ns (recordsEnd ns))) same)
 
@@ -36,4 +36,5 @@ write-page-spec =
     (λ c. omega arith) (λ c. omega arith) (λ c. omega arith) (λ c. omega arith) (λ c. omega arith) (λ c. omega arith) (λ c κs. search needs)
     (λ c. omega arith) copy-records-requires (λ c. omega arith) (λ c. omega arith) (λ c. omega arith) (λ c. omega arith) (λ c. omega arith)
     (λ c. omega arith) (λ c. omega arith) (λ c. omega arith) (λ c. omega arith) (λ c. omega arith) (λ c. omega arith) (λ c. omega arith)
-    (λ c. omega arith) (λ c. omega arith) (λ c. omega arith) (λ c κs. search needs) (λ c κs. search needs) (λ c. omega arith) returns)
+    (λ c. omega arith) (λ c. omega arith) (λ c. omega arith) (λ c. omega arith) (λ c. omega arith) (λ c. omega arith) (λ c κs. search needs)
+    (λ c κs. search needs) (λ c. omega arith) returns)

@@ -66,6 +66,10 @@ totables-requires c κs =
     let c4 = c .before .before .before .before in
     (placed (c4) 8 (omega arith), omega (arith, c4 .pre .1))
 
+open-page-requires : tie.Need-open-page-requires
+unfolding cut
+open-page-requires c κs = placed (c .before .before .before .before .before) 9 (omega arith)
+
 returns : tie.Need-returns
 returns c =
     let c3 = c .before .before .before in
@@ -123,19 +127,26 @@ returns-9 c =
     let p = c .before .before .totables .ensures in
     (put-text (is (c .before .before .before .before .before .before .before) 8 (omega arith)) (p .0), omega (arith, p .1))
 
+returns-10 : tie.Need-returns-10
+returns-10 c =
+    let c3 = c .before .before .before in
+    let c9 = c3 .before .before .before .before .before .before in
+    let s = c .before .before .say7 in
+    (put-text (ap (spoken (bytes "number ")) (c3 .open-page .ensures) ∙ is (c9) 9 (omega arith)) (s .ensures .0), omega (arith, s .ensures .1))
+
 -- one verb of the table after the other is passed by
 pass : (k v : ℕ) → k ≤ v → (v ≡ k → ⊥) → suc k ≤ v
 pass k v h n = omega (arith, n)
 
-returns-10 : tie.Need-returns-10
-returns-10 c =
+returns-11 : tie.Need-returns-11
+returns-11 c =
     let a = c .before .before .before .args in
     let v = a .verb in
-    let r7 = c .match .rest .0 in
-    let r5 = r7 .0 .0 in
-    let r3 = r5 .0 .0 in
-    let four = pass 3 v (pass 2 v (pass 1 v (pass 0 v (omega arith) (r3 .0 .0 .0 .1)) (r3 .0 .0 .1)) (r3 .0 .1)) (r3 .1) in
-    let far : 9 ≤ v = pass 8 v (pass 7 v (pass 6 v (pass 5 v (pass 4 v four (r5 .0 .1)) (r5 .1)) (r7 .0 .1)) (r7 .1)) (c .match .rest .1) in
+    let r8 = c .match .rest .0 in
+    let r6 = r8 .0 .0 in
+    let r4 = r6 .0 .0 in
+    let five = pass 4 v (pass 3 v (pass 2 v (pass 1 v (pass 0 v (omega arith) (r4 .0 .0 .0 .0 .1)) (r4 .0 .0 .0 .1)) (r4 .0 .0 .1)) (r4 .0 .1)) (r4 .1) in
+    let far : 10 ≤ v = pass 9 v (pass 8 v (pass 7 v (pass 6 v (pass 5 v five (r6 .0 .1)) (r6 .1)) (r8 .0 .1)) (r8 .1)) (c .match .rest .1) in
     (put-text (sym (ap (λ (f : List ℕ → List ℕ). f (a .ns .now)) (List·getD-eq-default verbs (λ ns. []) far))) (put-nothing (a .out .now) 0), omega arith)
 
 pub reply-spec : {M : Type 1} → statement M
@@ -151,6 +162,7 @@ reply-spec =
     (λ c. search needs) pread-requires (λ c κs. search needs)
     tosheet-requires
     totables-requires
+    (λ c. search needs) open-page-requires (λ c κs. search needs)
     (λ c. search needs) returns
     (λ c. search needs) returns-2
     (λ c. search needs) returns-3
@@ -160,4 +172,5 @@ reply-spec =
     (λ c. search needs) returns-7
     (λ c. search needs) returns-8
     (λ c. search needs) returns-9
-    returns-10)
+    (λ c. search needs) returns-10
+    returns-11)
