@@ -140,13 +140,11 @@ module _ (s : Sheet) (first : ℕ) (before : List ℕ) (records : List StuckCell
 
   -- no codeword of a message other than 0 weighs less than the number
   module _ (far : (c : ℕ) → Hidden s c → number ≤ weight c) where
-    reads-there : number ≤ mostNumber → 2 * t < number → (z : ℕ) × (tried : ℕ) × (reads s (x ⊕ noise) t ≡ answer (w ∷ z ∷ tried ∷ []))
-    reads-there most near = reads-back s number far ok w _ _ x d base noise t low few (omega (arith, most, near)) near
-
+    -- what the base reads of what the slot holds, the page reads
     back : number ≤ mostNumber → length page ≤ mostSlots → place < length page → 2 * t < number
         → (z : ℕ) × (tried : ℕ) × (pageReads s number page place t ≡ answer (w ∷ z ∷ tried ∷ []))
     back most slots there near =
-        let q = reads-there most near in
+        let q = reads-back s number far ok w _ _ x d base noise t low few (omega (arith, most, near)) near in
         (q .0, q .1, read-is-base s number page place t (omega (arith, near), most) slots there near ∙ ap (λ (y : ℕ). reads s y t) holds ∙ q .2)
 
     -- an answer says that the radius doubled is below the number

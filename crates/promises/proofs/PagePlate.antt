@@ -84,7 +84,19 @@ module _ (s : Sheet) where
 
       -- so it is one that every call takes, and at most the true d1 always
       pub opened-most : ((1 ≤ number) × (number ≤ mostNumber)) × (number ≤ d1)
-      opened-most = elim opened-is [ inl p ↦ ((omega (arith, d1-some s D, p .1), omega (arith, p .0, p .1)), omega (arith, p .1)) | inr p ↦ ((omega (arith, p .1), omega (arith, p .1)), omega (arith, p .0, p .1)) ]
+      opened-most = go opened-is
+        where
+          go : ((d1 ≤ mostCap) × (number ≡ d1)) ⊎ ((mostCap < d1) × (number ≡ mostNumber)) → ((1 ≤ number) × (number ≤ mostNumber)) × (number ≤ d1)
+          go (inl p) = ((omega (arith, d1-some s D), omega arith), omega arith)
+          go (inr p) = ((omega arith, omega arith), omega arith)
+
+    -- the printed radius, whatever cap it was measured with: its double is below the number, so 16 does not refuse it
+    pub printed-near : (cap v radius : ℕ) → Printed s cap v radius → 2 * held radius < number
+    printed-near cap v radius p =
+        let far = d1-exists s opened-admitted in
+        let below = premise-of-d1 s cap v radius p (far .0) (far .1) in
+        let at-most = premise-met s cap v radius p .0 in
+        elim (opened-is (far .0) (far .1)) [ inl q ↦ omega (arith, q .1, below) | inr q ↦ omega (arith, q .1, at-most) ]
 
 -- ---- reading by the number that opening gave: no wrong village
 
@@ -109,17 +121,10 @@ module _ (s : Sheet) (first : ℕ) (before : List ℕ) (records : List StuckCell
         → (z : ℕ) × (tried : ℕ) × (pageReads s number page place t ≡ answer (w ∷ z ∷ tried ∷ []))
     opened-reads-back = page-reads-back s first before records slot w x d written number page place noise t holds low few (far .0) (far .1) (most .1) (most .0 .1)
 
-  -- the printed radius, whatever cap it was measured with: 16 does not refuse it, and so the slot is read back
-  module _ (cap v radius : ℕ) (p : Printed s cap v radius) where
-    pub printed-near : 2 * held radius < number
-    printed-near =
-        let below = premise-of-d1 s cap v radius p (far .0) (far .1) in
-        let at-most = premise-met s cap v radius p .0 in
-        elim (opened-is s number opened (far .0) (far .1)) [ inl q ↦ omega (arith, q .1, below) | inr q ↦ omega (arith, q .1, at-most) ]
-
-    pub printed-page-reads-back : weight noise ≤ held radius → length page ≤ mostSlots → place < length page
-        → (z : ℕ) × (tried : ℕ) × (pageReads s number page place (held radius) ≡ answer (w ∷ z ∷ tried ∷ []))
-    printed-page-reads-back few slots there = opened-reads-back (held radius) few slots there printed-near
+  -- so the slot is read back at the printed radius
+  pub printed-page-reads-back : (cap v radius : ℕ) → Printed s cap v radius → weight noise ≤ held radius → length page ≤ mostSlots → place < length page
+      → (z : ℕ) × (tried : ℕ) × (pageReads s number page place (held radius) ≡ answer (w ∷ z ∷ tried ∷ []))
+  printed-page-reads-back cap v radius p few slots there = opened-reads-back (held radius) few slots there (printed-near s number opened cap v radius p)
 
 -- ---- and 16 refuses no radius without cause
 
