@@ -1,4 +1,3 @@
 -- The laws of a page's calls: how the code meets the rules.
 pub mod Machine
-pub mod Judging
 pub mod Slots

@@ -1,6 +1,6 @@
 -- What the records of one slot gather to never breaks rule 8, so a slot is written by 15, 7 and 9 alone: the code's steps tell what the definition tells.
--- For the walk of `page_write`. Assumes nothing.
-use mathlib.Core.Path.{_≡_, sym, ap}
+-- And what is told of a write says what it leaves. For the walk of `page_write`, and for what it calls. Assumes nothing.
+use mathlib.Core.Path.{_≡_, sym, ap, _∙_}
 use mathlib.Core.Bool.{_&&_}
 use mathlib.Core.List.{List}
 use Prim.Native.Nat.{ℕ, min}
@@ -8,7 +8,7 @@ use native.Mathlib.Omega.{arith}
 use lib.Dec.{ltb}
 use lib.ListN.{length}
 use Rattle.paper.specs.First.{First, nowhere, at}
-use Rattle.paper.specs.Page.{recordsOf, firstBroken, fewSlots, fewRecords, slotWrites, pageWrites}
+use Rattle.paper.specs.Page.{recordsOf, firstBroken, fewSlots, fewRecords, slotWrites, pageWrites, pageAfter}
 use Rattle.paper.specs.Refusals.{Told, unless}
 use Rattle.paper.specs.Sheet.{Sheet}
 use Rattle.paper.specs.Words.{width}
@@ -17,9 +17,9 @@ use Rattle.paper.specs.declared.StuckCell.{StuckCell}
 use Rattle.records.specs.Gather.{gatheredAt, gatherOf}
 use Rattle.records.proofs.Said.{unbroken-stuck}
 use Rattle.sheet.specs.Sound.{Sound}
+use Rattle.opening.proofs.Judging.{alike-when-sound}
 use Rattle.writing.proofs.Breaches.{stuck-passes}
 use Rattle.page.specs.Steps.{putsAdmitted, writesWith}
-use Rattle.page.proofs.Judging.{alike-when-sound}
 
 -- a slot's records rs, on a sheet that is sound
 module _ (s : Sheet) (rs : List StuckCell) (w : ℕ) where
@@ -40,3 +40,8 @@ pub with-gathered : (s : Sheet) (number : ℕ) (page : List ℕ) (records : List
 unfolding writesWith pageWrites
 with-gathered s number page records slot w =
     alike-when-sound s number (fewSlots page && fewRecords records) _ _ (λ ok. ap (λ (t : Told). unless (ltb slot (length page)) 14 t) (puts-slot s ok records slot w))
+
+-- what is told by another name is what the page was left by
+pub leaves : (page : List ℕ) (slot : ℕ) {told a b : Told} {left : List ℕ} → a ≡ b → (told ≡ a) × (left ≡ pageAfter a page slot)
+    → (told ≡ b) × (left ≡ pageAfter b page slot)
+leaves page slot e h = (h .0 ∙ e, h .1 ∙ ap (λ (t : Told). pageAfter t page slot) e)

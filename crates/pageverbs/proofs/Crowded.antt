@@ -9,13 +9,13 @@ use native.Mathlib.Decide.{decLe}
 use native.Mathlib.Omega.{arith}
 use lib.ListN.{length, take, length-take}
 use lib.Seq.{take-all}
-use Rattle.paper.specs.Page.{mostSlots, mostRecords, numbered, fewSlots, fewRecords, paged, pageWrites, pageAfter}
-use Rattle.paper.specs.Refusals.{Told, refusal, unless}
-use Rattle.paper.specs.Sheet.{Sheet, judged}
+use Rattle.paper.specs.Page.{mostSlots, mostRecords, fewSlots, fewRecords, paged, pageWrites, pageAfter}
+use Rattle.paper.specs.Refusals.{Told, answer, refusal}
+use Rattle.paper.specs.Sheet.{Sheet}
 use Rattle.paper.specs.declared.StuckCell.{StuckCell}
 use Rattle.rules.proofs.Both.{not-both}
-use Rattle.rules.proofs.Stages.{Stage, passes, refuses, unless-stage, then}
-use Rattle.sheet.proofs.Verdicts.{judged-stage}
+use Rattle.rules.proofs.Stages.{Stage, passes, refuses}
+use Rattle.opening.proofs.Judging.{paged-stage}
 use Rattle.lines.specs.Arguments.{at, sheetIn, arg}
 use Rattle.pageverbs.specs.Pages.{roomSlots, roomRecords, pageEnd, pageIn, recordsFrom, recordsIn, recordsEnd, pageWritten}
 use Rattle.pageverbs.proofs.Lists.{records-clipped}
@@ -25,14 +25,19 @@ many : (page : List ℕ) (records : List StuckCell) → (mostSlots < length page
 many page records = not-both (length page) mostSlots (length records) mostRecords .1
 
 module _ (s : Sheet) (number slot w : ℕ) where
-  -- the rules before 13
-  abbrev to-13 : Told → Told
-  to-13 next = judged s (unless (numbered number) 16 next)
-
+  -- they are told by the rules of sheet and page alone, which leave the page
   too-many : (page : List ℕ) (records : List StuckCell) → (fewSlots page && fewRecords records) ≡ false
-      → pageWrites s number page records slot w ≡ to-13 (refusal 13 [])
+      → pageWrites s number page records slot w ≡ paged s number false (answer [])
   unfolding pageWrites paged
   too-many page records e = rw e
+
+  left : (page : List ℕ) → pageAfter (paged s number false (answer [])) page slot ≡ page
+  unfolding paged
+  left page = go (paged-stage s number false)
+    where
+      go : Stage (paged s number false) → pageAfter (paged s number false (answer [])) page slot ≡ page
+      go (passes p) = ap (λ (t : Told). pageAfter t page slot) (p (refusal 13 []))
+      go (refuses m given p) = ap (λ (t : Told). pageAfter t page slot) (p (answer []))
 
   module _ (page : List ℕ) (records : List StuckCell) where
     -- a page and records that are clipped are told as they are
@@ -56,11 +61,7 @@ module _ (s : Sheet) (number slot w : ℕ) where
 
     -- a page of too many slots stays as it was
     pub crowded : mostSlots < length page → page ≡ pageAfter (pageWrites s number page records slot w) page slot
-    crowded h = sym (ap (λ (t : Told). pageAfter t page slot) (too-many page records (many page records (inl h))) ∙ go (then (judged-stage s) (unless-stage (numbered number) 16)))
-      where
-        go : Stage to-13 → pageAfter (to-13 (refusal 13 [])) page slot ≡ page
-        go (passes p) = ap (λ (t : Told). pageAfter t page slot) (p (refusal 13 []))
-        go (refuses number given p) = ap (λ (t : Told). pageAfter t page slot) (p (refusal 13 []))
+    crowded h = sym (ap (λ (t : Told). pageAfter t page slot) (too-many page records (many page records (inl h))) ∙ left page)
 
 -- what a line's write is told is told of the first of its slots and records
 pub written-clipped : (ns page : List ℕ) (records : List StuckCell) (held : ℕ) → page ≡ take roomSlots (pageIn ns)

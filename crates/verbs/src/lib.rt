@@ -110,7 +110,7 @@ fn open_page(ns: &[Word]) -> Numbers
     ensures { λ r. ⌜ tells r ≡ opens (sheetIn (now (ns .entry))) ⌝ }
 {
     let at = 4 + ns[3] as usize;
-    of_opening(page::open_page(ns[0] as u32, ns[1] as u32, ns[2] as u32, &ns[4..at]))
+    of_opening(opening::open_page(ns[0] as u32, ns[1] as u32, ns[2] as u32, &ns[4..at]))
 }
 
 // Puts the text of the answer to a verb's call.

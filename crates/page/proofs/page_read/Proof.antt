@@ -10,7 +10,7 @@ use Rattle.paper.specs.Refusals.{Told, unless}
 use Rattle.paper.specs.Sheet.{Sheet, sheet}
 use Rattle.rules.proofs.Rules.{unless-stop, unless-pass}
 use Rattle.rules.proofs.Stages.{told-refused, told-next}
-use Rattle.page.proofs.Judging.{paged-stage, page-sound}
+use Rattle.opening.proofs.Judging.{paged-stage, page-sound}
 use Rattle.page.proofs.page_read.Statement.{statement}
 use Rattle.page.proofs.page_read.Tie as tie
 

@@ -10,7 +10,7 @@ use Rattle.paper.specs.Sheet.{Sheet, sheet}
 use Rattle.paper.specs.Writing.{writesAdmitted}
 use Rattle.records.specs.declared.Gathered.{Gathered}
 use Rattle.page.specs.Steps.{putsAdmitted}
-use Rattle.page.proofs.Judging.{leaves}
+use Rattle.page.proofs.Slots.{leaves}
 use Rattle.page.proofs.put.Statement.{statement}
 use Rattle.page.proofs.put.Tie as tie
 

@@ -13,7 +13,8 @@ use Rattle.paper.specs.Sheet.{sheet}
 use Rattle.rules.proofs.Rules.{unless-stop, unless-pass}
 use Rattle.page.specs.Steps.{putsAdmitted, writesWith}
 use Rattle.rules.proofs.Stages.{told-refused, told-next}
-use Rattle.page.proofs.Judging.{paged-stage, page-sound, leaves}
+use Rattle.opening.proofs.Judging.{paged-stage, page-sound}
+use Rattle.page.proofs.Slots.{leaves}
 use Rattle.page.proofs.write_gathered.Statement.{statement}
 use Rattle.page.proofs.write_gathered.Tie as tie
 

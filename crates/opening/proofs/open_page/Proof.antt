@@ -4,8 +4,8 @@ use borrow.Author.Needs.{needs}
 use Rattle.paper.specs.Page.{plateNumber, opens}
 use Rattle.paper.specs.Refusals.{Told, measuredD1}
 use Rattle.paper.specs.declared.MeasuredD1.{MeasuredD1}
-use Rattle.page.proofs.open_page.Statement.{statement}
-use Rattle.page.proofs.open_page.Tie as tie
+use Rattle.opening.proofs.open_page.Statement.{statement}
+use Rattle.opening.proofs.open_page.Tie as tie
 
 -- the number of what a measurement tells
 abbrev number-of : MeasuredD1 → Told

@@ -1,8 +1,8 @@
 -- `are_few` meets its contract: the second test is asked where the first holds.
 use borrow.Author.Tests.{le-leb, lt-leb}
 use Rattle.paper.specs.Page.{mostSlots}
-use Rattle.page.proofs.are_few.Statement.{statement}
-use Rattle.page.proofs.are_few.Tie as tie
+use Rattle.opening.proofs.are_few.Statement.{statement}
+use Rattle.opening.proofs.are_few.Tie as tie
 
 returns : tie.Need-returns
 returns c = rw (le-leb (c .before .args .slots) mostSlots (c .if1 .taken))

@@ -8,8 +8,8 @@ use Rattle.paper.specs.Refusals.{Told, answer, unless}
 use Rattle.paper.specs.Sheet.{sheet}
 use Rattle.rules.proofs.Rules.{unless-stop, unless-pass}
 use Rattle.sheet.proofs.Calls.{call-refused, call-answer}
-use Rattle.page.proofs.admit.Statement.{statement}
-use Rattle.page.proofs.admit.Tie as tie
+use Rattle.opening.proofs.admit.Statement.{statement}
+use Rattle.opening.proofs.admit.Tie as tie
 
 -- what is told from 16 on is told of an admitted sheet
 past-sheet : (c : tie.After-enum-told) → let a = c .before .before .before .before .args in

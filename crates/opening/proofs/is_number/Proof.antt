@@ -1,7 +1,7 @@
 -- `is_number` meets its contract: the second test is asked where the first holds.
 use borrow.Author.Tests.{le-leb, lt-leb}
-use Rattle.page.proofs.is_number.Statement.{statement}
-use Rattle.page.proofs.is_number.Tie as tie
+use Rattle.opening.proofs.is_number.Statement.{statement}
+use Rattle.opening.proofs.is_number.Tie as tie
 
 returns : tie.Need-returns
 returns c = rw (le-leb 1 (c .before .args .number) (c .if1 .taken))

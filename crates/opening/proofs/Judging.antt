@@ -1,10 +1,10 @@
 -- What every call on a page does first: a refusal of sheet or page is the call's answer, and else the sheet is sound and what comes next is told.
--- And what is told of a write says what it leaves. For the proofs of the page's functions. Assumes nothing.
+-- For the proofs of the calls on a page. Assumes nothing.
 use mathlib.Core.Path.{_≡_, refl, sym, ap, _∙_}
 use mathlib.Core.Bool.{Bool}
-use mathlib.Core.List.{List, []}
+use mathlib.Core.List.{[]}
 use Prim.Native.Nat.{ℕ}
-use Rattle.paper.specs.Page.{numbered, paged, pageAfter}
+use Rattle.paper.specs.Page.{numbered, paged}
 use Rattle.paper.specs.Refusals.{Told, answer, admission, unless}
 use Rattle.paper.specs.Sheet.{Sheet, judged}
 use Rattle.paper.specs.declared.Admission.{Admission}
@@ -30,8 +30,3 @@ pub alike-when-sound : (s : Sheet) (number : ℕ) (few : Bool) (a b : Told) → 
 unfolding paged
 alike-when-sound s number few a b h =
     on-admitted s _ _ (λ ok. ap (λ (t : Told). judged s (unless (numbered number) 16 (unless few 13 t))) (h (sound s ok)))
-
--- what is told by another name is what the page was left by
-pub leaves : (page : List ℕ) (slot : ℕ) {told a b : Told} {left : List ℕ} → a ≡ b → (told ≡ a) × (left ≡ pageAfter a page slot)
-    → (told ≡ b) × (left ≡ pageAfter b page slot)
-leaves page slot e h = (h .0 ∙ e, h .1 ∙ ap (λ (t : Told). pageAfter t page slot) e)

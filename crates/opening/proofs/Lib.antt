@@ -1,0 +1,2 @@
+-- What every call on a page does first.
+pub mod Judging
