@@ -12,6 +12,7 @@ use Rattle.paper.specs.declared.Written.{Written}
 use Rattle.paper.specs.declared.Reading.{Reading}
 use Rattle.promises.proofs.Pinned.{written-once, reading-once, opening-once}
 
+-- the number
 pub open-page-pinned : (s : Sheet) (a b : Opening) → opening a ≡ opens s → opening b ≡ opens s → a ≡ b
 open-page-pinned s = opening-once (opens s)
 

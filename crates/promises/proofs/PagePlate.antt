@@ -108,6 +108,7 @@ module _ (s : Sheet) (first : ℕ) (before : List ℕ) (records : List StuckCell
   abbrev far : (d1 : ℕ) × D1 s d1
   far = d1-exists s (opened-admitted s number opened)
 
+  -- so it is one of 1 to 9, and at most d1
   most : ((1 ≤ number) × (number ≤ mostNumber)) × (number ≤ far .0)
   most = opened-most s number opened (far .0) (far .1)
 

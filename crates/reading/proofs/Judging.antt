@@ -16,9 +16,11 @@ use Rattle.rules.proofs.Stages.{Stage, unless-stage, unlessAt-stage, then}
 use Rattle.reading.specs.Steps.{readable}
 
 module _ (n y t : ℕ) where
+  -- rules 10 and 11 as one chain
   pub readable-stage : Stage (readable n y t)
   readable-stage = then (unlessAt-stage (first width (strayCell n y)) 10 0) (unless-stage (leb t mostRadius) 11)
 
+  -- a radius that passes them is one of 0 to 4
   pub radius-passed : (verdict : Admission) → admission verdict ≡ readable n y t (answer []) → verdict ≡ Admission.Admitted → t ≤ mostRadius
   radius-passed verdict e h =
       let p = past-at 10 (unless (leb t mostRadius) 11 (answer [])) (first width (strayCell n y)) 0 (answer []) refl .0 (sym e ∙ ap admission h) in
