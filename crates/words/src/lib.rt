@@ -48,7 +48,7 @@ pub fn products_of(rows: &[Word], x: Word) -> Word
     word
 }
 
-// The sum of the rows that d picks, bit j for row j.
+// The sum of the rows that d picks, bit j for row j. A row is multiplied by its bit, as the definition has it: a branch on the bits of a message would be guessed wrong every other time.
 pub fn sum_of(rows: &[Word], d: Word) -> Word
     ensures { λ r. ⌜ r ≡ sum (now (rows .entry)) d ⌝ }
 {
@@ -56,9 +56,7 @@ pub fn sum_of(rows: &[Word], d: Word) -> Word
     let mut left = d;
     let mut i = 0;
     while i < rows.len() {
-        if left % 2 == 1 {
-            word = word ^ rows[i];
-        }
+        word = word ^ (left % 2 * rows[i]);
         left = left / 2;
         i += 1;
     }

@@ -32,7 +32,7 @@ fn find_misplaced(n: u32, stuck: Word, levels: Word) -> Place
 }
 
 // "The answer is the fitting word of message w whose d .. is the smallest number, and that d"; 9 if there is none.
-// d fits if dG0 has at the stuck cells what wG1 and the levels differ in.
+// d fits if dG0 has at the stuck cells what wG1 and the levels differ in; where they differ in none, as where nothing is stuck, wG1 itself is that word.
 fn choose_word(
     n: u32,
     k: u32,
@@ -46,6 +46,9 @@ fn choose_word(
     ensures { λ r. ⌜ written r ≡ chosen (sheet n k l (now (rows .entry))) message (fitting (sheet n k l (now (rows .entry))) message stuck levels) ⌝ }
 {
     let base = sum_of(part(rows, 0, k), message);
+    if (base ^ levels) & stuck == 0 {
+        return Written::Word { word: base, d: 0 };
+    }
     let g0 = part(rows, k, l);
     match solve(g0, stuck, base ^ levels) {
         Solution::Choice(d) => Written::Word {
