@@ -1,13 +1,15 @@
-//! Cases repeatable from a seed: good calls, on pages, to open them, about tables and others,
-//! calls with broken sheets or odd arguments, and lines that are no calls.
+//! Cases repeatable from a seed: good calls, on pages and whole ones, to open them, about
+//! tables and others, calls with broken sheets or odd arguments, and lines that are no calls.
 
 use crate::asking::{any_call, call_text, far_sheet, good_call, Verb};
 use crate::breaking::broken_sheet;
+use crate::filling::whole_call;
 use crate::making::some_sheet;
 use crate::noise::noise_line;
 use crate::opening::{big_open_call, open_call};
 use crate::paging::page_call;
 use crate::random::Random;
+use crate::sheet::Sheet;
 use crate::tabling::table_call;
 use crate::taming::highest_cap;
 use crate::word::Word;
@@ -32,7 +34,7 @@ pub fn print_cases(seed: u64, count: u64, mut output: impl Write) -> io::Result<
 }
 
 /// One line of any kind; of the calls one in eight is about tables, one in thirty opens a
-/// page, and of the others one in three is a page call.
+/// page, and of the others one in three is a call on a page or on a whole one.
 fn case_line(random: &mut Random) -> Vec<u8> {
     let paged = random.once_in(3);
     match random.below(100) {
@@ -42,12 +44,12 @@ fn case_line(random: &mut Random) -> Vec<u8> {
         23..=43 if paged => {
             let sheet = broken_sheet(random);
             let odd = random.once_in(3);
-            page_call(random, &sheet, odd).into_bytes()
+            any_page_call(random, &sheet, odd).into_bytes()
         }
         44..=99 if paged => {
             let sheet = some_sheet(random);
             let odd = random.once_in(2);
-            page_call(random, &sheet, odd).into_bytes()
+            any_page_call(random, &sheet, odd).into_bytes()
         }
         23..=43 => {
             let sheet = broken_sheet(random);
@@ -61,6 +63,15 @@ fn case_line(random: &mut Random) -> Vec<u8> {
             any_call(random, verb, &sheet, true).into_bytes()
         }
         _ => good_call(random).into_bytes(),
+    }
+}
+
+/// A call on a page of this sheet, its arguments good or odd ones; one in four writes a whole
+/// page.
+fn any_page_call(random: &mut Random, sheet: &Sheet, odd: bool) -> String {
+    match random.once_in(4) {
+        true => whole_call(random, sheet, odd),
+        false => page_call(random, sheet, odd),
     }
 }
 
@@ -95,6 +106,22 @@ mod tests {
         assert_ne!(cases(1), cases(2));
         let newlines = cases(1).iter().filter(|byte| **byte == b'\n').count();
         assert_eq!(newlines, 500);
+    }
+
+    /// Every verb comes up often.
+    #[test]
+    fn verbs_that_come_up() {
+        let mut output = Vec::new();
+        print_cases(4, 2_000, &mut output).expect("cases");
+        let lines: Vec<&[u8]> = output.split(|byte| *byte == b'\n').collect();
+        for verb in [
+            "admit", "write", "read", "d0", "d1", "open", "pwrite", "pread", "wpage", "tosheet",
+            "totables",
+        ] {
+            let start = format!("{verb} ").into_bytes();
+            let times = lines.iter().filter(|line| line.starts_with(&start));
+            assert!(times.count() > 40, "{verb}");
+        }
     }
 
     /// No call goes through a list that is longer than any may be, and few go through one

@@ -32,7 +32,7 @@ const PICKED: [Place; 9] = [
 
 /// The verbs and the shapes of their calls, a letter for each part: `w` a word, `n` another
 /// number, `S` a sheet, `L` a list of words, `R` records, `M` a room.
-const SHAPES: [(&str, &str); 10] = [
+const SHAPES: [(&str, &str); 11] = [
     ("admit", "S"),
     ("write", "Swww"),
     ("read", "Swn"),
@@ -41,6 +41,7 @@ const SHAPES: [(&str, &str); 10] = [
     ("open", "S"),
     ("pwrite", "SnLRnw"),
     ("pread", "SnLnn"),
+    ("wpage", "SnLRLM"),
     ("tosheet", "nnnLLLM"),
     ("totables", "SMMM"),
 ];
@@ -110,6 +111,7 @@ pub fn edge_line(random: &mut Random, mut tokens: Vec<String>) -> Vec<u8> {
 mod tests {
     use super::*;
     use crate::asking::good_call;
+    use crate::filling::good_whole_call;
     use crate::lines::{answer_line, MOST_OF_A_ROOM};
     use crate::opening::good_open_call;
     use crate::paging::good_page_call;
@@ -132,9 +134,15 @@ mod tests {
     fn edges_of_places() {
         let mut random = Random::new(92);
         let mut times = [[0; 2]; 5];
-        let makers = [good_call, good_page_call, good_table_call, good_open_call];
-        for turn in 0..12_000 {
-            let make = makers[turn % 4];
+        let makers = [
+            good_call,
+            good_page_call,
+            good_table_call,
+            good_open_call,
+            good_whole_call,
+        ];
+        for turn in 0..15_000 {
+            let make = makers[turn % 5];
             let tokens = tokens_of(make(&mut random));
             let line = edge_line(&mut random, tokens.clone());
             let changed = tokens_of(String::from_utf8(line.clone()).expect("text"));

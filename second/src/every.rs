@@ -1,5 +1,5 @@
-//! Everything of a kind: every list of numbers below given limits, and every sheet and
-//! all tables with given n, k and l.
+//! Everything of a kind: every list of numbers below given limits, every sheet and all
+//! tables with given n, k and l, and every short list of records.
 
 use crate::sheet::{Sheet, Tables};
 use crate::word::Word;
@@ -40,6 +40,23 @@ pub fn every_tables(n: u32, k: u32, l: u32, past: Word) -> impl Iterator<Item = 
     })
 }
 
+/// Every list of up to 2 records with slots 0 and 1, cells up to n and levels up to 2, each
+/// record as its slot, cell and level.
+pub fn every_records(n: u32) -> Vec<Vec<[Word; 3]>> {
+    let mut records = Vec::new();
+    for slot in 0..=1 {
+        for cell in 0..=Word::from(n) {
+            records.extend((0..=2).map(|level| [slot, cell, level]));
+        }
+    }
+    let ones = records.iter().map(|record| vec![*record]);
+    let pairs = records.iter().flat_map(|first| {
+        let with_first = |second: &[Word; 3]| vec![*first, *second];
+        records.iter().map(with_first)
+    });
+    [vec![]].into_iter().chain(ones).chain(pairs).collect()
+}
+
 #[cfg(test)]
 mod tests {
     use super::*;
@@ -70,5 +87,18 @@ mod tests {
         assert_eq!(every_tables(6, 2, 1, 0).count(), 1 << (2 * 3 + 2 + 3));
         assert_eq!(every_tables(6, 2, 1, 1).count(), 9 * 9 * 5 * 9);
         assert_eq!(every_tables(3, 3, 0, 0).count(), 1);
+    }
+
+    /// No record, one of 2 slots, n + 1 cells and 3 levels, and any two of these, no list
+    /// twice.
+    #[test]
+    fn number_of_records() {
+        for (n, ones) in [(0, 6), (2, 18), (3, 24)] {
+            let mut lists = every_records(n);
+            assert_eq!(lists.len(), 1 + ones + ones * ones);
+            lists.sort();
+            lists.dedup();
+            assert_eq!(lists.len(), 1 + ones + ones * ones);
+        }
     }
 }

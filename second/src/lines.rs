@@ -4,6 +4,7 @@ use crate::calls::{admitting, d0, d1, read, write, Answer, Measured};
 use crate::page::{open, page_read, page_write, Record};
 use crate::sheet::{Refusal, Sheet};
 use crate::tables::{to_sheet, to_tables};
+use crate::whole::whole_page_write;
 use crate::word::Word;
 use std::io::{self, BufRead, Write};
 
@@ -70,6 +71,7 @@ fn answer_call(line: &[u8]) -> Option<String> {
         (b"open", []) => open(&sheet),
         (b"pread", rest) => page_reading(&sheet, rest)?,
         (b"pwrite", rest) => return page_writing(&sheet, rest),
+        (b"wpage", rest) => return whole_page_writing(&sheet, rest),
         (b"totables", rest) => return giving_tables(&sheet, rest),
         _ => return None,
     };
@@ -100,6 +102,22 @@ fn page_writing(sheet: &Sheet, numbers: &[Word]) -> Option<String> {
     let slot = narrow(*slot)?;
     let result = page_write(sheet, number, &mut page, &records, slot, *message);
     Some(lent_text(result, ["page"], &[page]))
+}
+
+/// `wpage` after the sheet: the plate number, the page, the records, the messages and the room
+/// for the notes. Its answer, also a refusal, ends with page and notes as they are after the
+/// call.
+fn whole_page_writing(sheet: &Sheet, numbers: &[Word]) -> Option<String> {
+    let (number, rest) = narrow_and_rest(numbers)?;
+    let (page, rest) = list_and_rest(rest)?;
+    let (records, rest) = records_and_rest(rest)?;
+    let (messages, rest) = list_and_rest(rest)?;
+    let (mut notes, []) = room_and_rest(rest)? else {
+        return None;
+    };
+    let mut page = page.to_vec();
+    let result = whole_page_write(sheet, number, &mut page, &records, messages, &mut notes);
+    Some(lent_text(result, ["page", "notes"], &[page, notes]))
 }
 
 /// `tosheet`: n, k and l, the tables P, R and Q, and the room for the sheet. Its answer,

@@ -1,5 +1,5 @@
 //! The second program: it answers the calls of the name store on its own, straight from
-//! the definitions of document 01 and requests 1 and 3 to 6, and makes cases on which the
+//! the definitions of document 01 and requests 1 and 3 to 7, and makes cases on which the
 //! two are compared.
 
 mod asking;
@@ -8,6 +8,7 @@ mod calls;
 mod cases;
 mod edges;
 mod every;
+mod filling;
 mod lines;
 mod listing;
 mod making;
@@ -20,11 +21,14 @@ mod roomnoise;
 mod sheet;
 mod small;
 mod smalltables;
+mod smallwholes;
 mod sums;
 mod tables;
 mod tabling;
 mod taming;
 mod tokens;
+mod whole;
+mod wholenoise;
 mod word;
 
 use std::io::{self, BufReader, BufWriter};

@@ -3,6 +3,7 @@
 
 use crate::asking::{good_call, line_text, list};
 use crate::edges::edge_line;
+use crate::filling::good_whole_call;
 use crate::lines::ROOM_FOR_LINE;
 use crate::making::kitchen;
 use crate::opening::good_open_call;
@@ -10,12 +11,13 @@ use crate::paging::{good_page_call, good_page_write};
 use crate::random::Random;
 use crate::roomnoise::room_noise;
 use crate::tabling::good_table_call;
-use crate::tokens::{after_list, joined, long_line, miscount, tokens_of};
+use crate::tokens::{after_list, joined, long_line, miscount, page_counts, tokens_of};
+use crate::wholenoise::whole_noise;
 use crate::word::Word;
 
 /// One line of noise.
 pub fn noise_line(random: &mut Random) -> Vec<u8> {
-    match random.below(24) {
+    match random.below(26) {
         0 => silent_line(random),
         1 => wrong_verb(random),
         2..=4 => wrong_token(random),
@@ -29,7 +31,8 @@ pub fn noise_line(random: &mut Random) -> Vec<u8> {
         14 => wrong_page_count(random),
         15 => many_slots(random),
         16..=18 => room_noise(random),
-        19..=22 => {
+        19 | 20 => whole_noise(random),
+        21..=24 => {
             let tokens = good_tokens(random);
             edge_line(random, tokens)
         }
@@ -37,12 +40,13 @@ pub fn noise_line(random: &mut Random) -> Vec<u8> {
     }
 }
 
-/// A good call, on a page, to open one, about tables or none of these.
+/// A good call, on a page or on a whole one, to open one, about tables or none of these.
 fn some_call(random: &mut Random) -> String {
-    match random.below(12) {
+    match random.below(13) {
         0..=3 => good_page_call(random),
         4 => good_open_call(random),
         5 | 6 => good_table_call(random),
+        7 => good_whole_call(random),
         _ => good_call(random),
     }
 }
@@ -89,6 +93,10 @@ fn wrong_verb(random: &mut Random) -> Vec<u8> {
         "pwrit",
         "preads",
         "Pwrite",
+        "wpage",
+        "wpages",
+        "wpag",
+        "WPage",
         "Open",
         "opens",
         "ope",
@@ -158,16 +166,14 @@ fn wrong_count(random: &mut Random) -> Vec<u8> {
     joined(tokens)
 }
 
-/// The places of the counts of a page write: of its page, and of its records.
-fn page_counts(tokens: &[String]) -> (usize, usize) {
-    let page = after_list(tokens, 4, 1) + 1;
-    (page, after_list(tokens, page, 1))
-}
-
-/// A page write with a record whose level its place cannot hold; or one with the largest
-/// that it can, or with leading zeros.
+/// A write to a page, or to a whole one, with a record whose level its place cannot hold; or
+/// one with the largest that it can, or with leading zeros.
 fn wrong_level(random: &mut Random) -> Vec<u8> {
-    let mut tokens = tokens_of(good_page_write(random));
+    let write = match random.once_in(3) {
+        true => good_whole_call(random),
+        false => good_page_write(random),
+    };
+    let mut tokens = tokens_of(write);
     let (_, at) = page_counts(&tokens);
     let end = after_list(&tokens, at, 3);
     let levels = [

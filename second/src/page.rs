@@ -43,6 +43,21 @@ fn admit_page(sheet: &Sheet, number: u32) -> Result<Parts<'_>, Refusal> {
     Ok(parts)
 }
 
+/// What every write to a page begins with, for a page of so many slots: refusals 1 to 6, 16
+/// and, for records and slots, 13.
+pub fn admit_writing<'a>(
+    sheet: &'a Sheet,
+    number: u32,
+    slots: usize,
+    records: &[Record],
+) -> Result<Parts<'a>, Refusal> {
+    let parts = admit_page(sheet, number)?;
+    if records.len() > MOST_RECORDS || slots > MOST_SLOTS {
+        return Err(bare(13));
+    }
+    Ok(parts)
+}
+
 /// Writes a message to a slot of the page around the stuck cells that the records name:
 /// refusals 1 to 6, 16, 13, 14, 15, 7 and 9. Refused, it leaves the page as it was.
 pub fn page_write(
@@ -53,10 +68,7 @@ pub fn page_write(
     slot: u32,
     message: Word,
 ) -> Result<Answer, Refusal> {
-    let n = admit_page(sheet, number)?.n;
-    if records.len() > MOST_RECORDS || page.len() > MOST_SLOTS {
-        return Err(bare(13));
-    }
+    let n = admit_writing(sheet, number, page.len(), records)?.n;
     let place = slot as usize;
     if place >= page.len() {
         return Err(bare(14));

@@ -11,10 +11,10 @@ use crate::sheet::Sheet;
 use crate::word::Word;
 
 /// One page in so many, and one list of records, is about as long as may be.
-const LONG_EVERY: u64 = 250;
+pub const LONG_EVERY: u64 = 250;
 
 /// A record as its three numbers: slot, cell and level.
-type Triple = [Word; 3];
+pub type Triple = [Word; 3];
 
 /// A page write on an admitted sheet with arguments as they should be.
 pub fn good_page_write(random: &mut Random) -> String {
@@ -99,7 +99,7 @@ fn number_of_read(random: &mut Random, radius: Word, odd: bool) -> Word {
 }
 
 /// A plate number from the least up to 9; of the odd ones some are outside 1 to 9.
-fn some_number(random: &mut Random, least: u32, odd: bool) -> Word {
+pub fn some_number(random: &mut Random, least: u32, odd: bool) -> Word {
     let number = match odd && random.once_in(8) {
         true => outside_number(random),
         false => random.between(least, 9),
@@ -129,7 +129,7 @@ fn some_page(random: &mut Random, sheet: &Sheet, odd: bool) -> Vec<Word> {
 }
 
 /// What a slot holds: mostly a word of a message, disturbed in some cells.
-fn held_word(random: &mut Random, sheet: &Sheet) -> Word {
+pub fn held_word(random: &mut Random, sheet: &Sheet) -> Word {
     match random.below(10) {
         0 | 1 => some_word(random),
         2 => random.word(cells(sheet)),
@@ -158,7 +158,7 @@ fn some_slot(random: &mut Random, slots: u32, odd: bool) -> u32 {
 
 /// The records of one slot for these stuck cells and levels, in any order, some of them
 /// more than once.
-fn own_records(random: &mut Random, slot: u32, stuck: Word, levels: Word) -> Vec<Triple> {
+pub fn own_records(random: &mut Random, slot: u32, stuck: Word, levels: Word) -> Vec<Triple> {
     let mut records = Vec::new();
     for cell in (0..64).filter(|cell| stuck >> cell & 1 == 1) {
         let record = [Word::from(slot), cell, levels >> cell & 1];
@@ -171,14 +171,14 @@ fn own_records(random: &mut Random, slot: u32, stuck: Word, levels: Word) -> Vec
 }
 
 /// Puts a record at any place of a list.
-fn put_in(random: &mut Random, records: &mut Vec<Triple>, record: Triple) {
+pub fn put_in(random: &mut Random, records: &mut Vec<Triple>, record: Triple) {
     let at = random.below(records.len() as u64 + 1) as usize;
     records.insert(at, record);
 }
 
 /// Refusal 15 mostly: a record for this slot with a cell at n or above, with a level
 /// other than 0 or 1, or one that disagrees with another.
-fn bad_record(random: &mut Random, n: u32, slot: u32, own: &[Triple]) -> Triple {
+pub fn bad_record(random: &mut Random, n: u32, slot: u32, own: &[Triple]) -> Triple {
     let slot = Word::from(slot);
     let cell = Word::from(random.between(0, n - 1));
     let level = random.word(1);

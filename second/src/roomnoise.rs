@@ -1,6 +1,7 @@
 //! Lines about tables that are no calls, or hardly calls: rooms whose size their place
 //! cannot hold or just can, rooms that lack a number or have one too many, counts of tables
-//! that lie, and tables as long as a line.
+//! that lie, and tables as long as a line. What is done to a room can be done to any call that
+//! ends with one.
 
 use crate::lines::MOST_OF_A_ROOM;
 use crate::making::kitchen;
@@ -12,25 +13,30 @@ use crate::word::Word;
 /// One line of noise about tables.
 pub fn room_noise(random: &mut Random) -> Vec<u8> {
     match random.below(12) {
-        0..=4 => wrong_size(random),
-        5..=7 => room_cut_or_added(random),
+        0..=4 => {
+            let tokens = tokens_of(good_table_call(random));
+            wrong_size(random, tokens)
+        }
+        5..=7 => {
+            let tokens = tokens_of(good_table_call(random));
+            room_cut_or_added(random, tokens)
+        }
         8 | 9 => wrong_table_count(random),
         10 => many_table_rows(random),
         _ => largest_rooms(random),
     }
 }
 
-/// The places of the sizes of a call's rooms: `tosheet` has one room, `totables` three, at
-/// its end.
+/// The places of the sizes of a call's rooms: `totables` has three rooms, any other call one,
+/// at its end.
 fn size_places(tokens: &[String]) -> Vec<usize> {
-    let rooms = if tokens[0] == "tosheet" { 1 } else { 3 };
+    let rooms = if tokens[0] == "totables" { 3 } else { 1 };
     (1..=rooms).map(|room| tokens.len() - 2 * room).collect()
 }
 
 /// A good call but for the size of a room: as large as its place holds, or larger, also
 /// with leading zeros.
-fn wrong_size(random: &mut Random) -> Vec<u8> {
-    let mut tokens = tokens_of(good_table_call(random));
+pub fn wrong_size(random: &mut Random, mut tokens: Vec<String>) -> Vec<u8> {
     let at = random.one_of(&size_places(&tokens));
     let most = u64::from(MOST_OF_A_ROOM);
     let size = match random.below(10) {
@@ -49,8 +55,7 @@ fn wrong_size(random: &mut Random) -> Vec<u8> {
 
 /// A good call with a room that lacks its fill, its size or both, or with a number or a
 /// whole room too many.
-fn room_cut_or_added(random: &mut Random) -> Vec<u8> {
-    let mut tokens = tokens_of(good_table_call(random));
+pub fn room_cut_or_added(random: &mut Random, mut tokens: Vec<String>) -> Vec<u8> {
     let at = random.one_of(&size_places(&tokens));
     let room = [tokens[at].clone(), tokens[at + 1].clone()];
     match random.below(5) {

@@ -1,12 +1,13 @@
 //! A small family of calls with nothing left out: all sheets of up to 3 cells, all tables
-//! for them, the page calls of two of them, and a sheet of each plate number.
+//! for them, the page calls of two of them, whole pages too, and a sheet of each plate number.
 
 use crate::asking::{call_text, line_text, list, Verb};
-use crate::every::{every_list, every_sheet};
+use crate::every::{every_list, every_records, every_sheet};
 use crate::making::{attic, repeating};
 use crate::opening::open_text;
 use crate::sheet::{admit, Sheet};
 use crate::smalltables::{sheets_to_make, sizes_to_judge, tables_in_any_rooms, tables_to_give};
+use crate::smallwholes::{lengths_to_judge, wholes_to_write};
 use crate::word::Word;
 use std::io::{self, Write};
 
@@ -23,9 +24,9 @@ const HELD: [Word; 2] = [Word::MAX, 1 << 31];
 /// Prints the family: every list of rows of up to 2 cells is asked to be admitted, for its
 /// plate number, and for its tables; every admitted sheet of up to 3 cells is measured, and
 /// asked for both; the attic sheet, those of up to 2 cells and some of those of 3 are written
-/// and read in every way; two have page calls, and rooms of any sizes for their tables. All
-/// tables of up to 3 cells are made into sheets. A sheet of each d1 from 1 to 10 is asked for
-/// its plate number.
+/// and read in every way; two have page calls, whole pages to be written, and rooms of any
+/// sizes for their tables. All tables of up to 3 cells are made into sheets. A sheet of each
+/// d1 from 1 to 10 is asked for its plate number.
 pub fn print_small(mut output: impl Write) -> io::Result<()> {
     let mut lines = writes_and_reads(&attic());
     lines.extend(sizes_to_judge());
@@ -35,6 +36,8 @@ pub fn print_small(mut output: impl Write) -> io::Result<()> {
         let sheet = Sheet { n, k, l, rows };
         lines.extend(page_writes(&sheet));
         lines.extend(page_reads(&sheet));
+        lines.extend(lengths_to_judge(&sheet));
+        lines.extend(wholes_to_write(&sheet));
         lines.extend(tables_in_any_rooms(&sheet));
     }
     for n in 1..=3 {
@@ -101,45 +104,29 @@ fn writes_and_reads(sheet: &Sheet) -> Vec<String> {
     lines
 }
 
-/// Every list of up to 2 records with slots 0 and 1, cells up to n and levels up to 2, on
-/// a page of 2 slots: slots 0 to 2, and every message and one past them. And no record,
-/// on pages of 0 and 1 slots. The number is each of 0 to 10, but 1 with 2 records.
+/// Every list of up to 2 records, of `every_records`, on a page of 2 slots: slots 0 to 2, and
+/// every message and one past them. And no record, on pages of 0 and 1 slots. The number is
+/// each of 0 to 10, but 1 with 2 records.
 fn page_writes(sheet: &Sheet) -> Vec<String> {
     let mut lines = Vec::new();
     for slots in 0..=2 {
         let lists = match slots {
-            2 => record_lists(sheet.n),
+            2 => every_records(sheet.n),
             _ => vec![vec![]],
         };
         for records in lists {
-            let count = records.len() as Word / 3;
+            let count = records.len() as Word;
             let numbers = if count < 2 { 0..=10 } else { 1..=1 };
             for number in numbers {
                 for slot_and_message in every_list(vec![3, (1 << sheet.k) + 1]) {
                     let before = [vec![number], list(&HELD[..slots]), vec![count]].concat();
-                    let rest = [before, records.clone(), slot_and_message];
+                    let rest = [before, records.concat(), slot_and_message];
                     lines.push(line_text("pwrite", sheet, &rest.concat()));
                 }
             }
         }
     }
     lines
-}
-
-/// The lists of up to 2 records, each as its numbers one after the other.
-fn record_lists(n: u32) -> Vec<Vec<Word>> {
-    let mut records = Vec::new();
-    for slot in 0..=1 {
-        for cell in 0..=Word::from(n) {
-            records.extend((0..=2).map(|level| vec![slot, cell, level]));
-        }
-    }
-    let pairs = records.iter().flat_map(|first| {
-        let with_first = |second: &Vec<Word>| [first.clone(), second.clone()].concat();
-        records.iter().map(with_first)
-    });
-    let pairs: Vec<Vec<Word>> = pairs.collect();
-    [vec![vec![]], records, pairs].concat()
 }
 
 /// Every page of up to 2 slots whose words are at most 2^n: numbers 0 to 10, slots 0 to 2,

@@ -22,6 +22,13 @@ pub fn after_list(tokens: &[String], at: usize, each: usize) -> usize {
     at + 1 + each * count
 }
 
+/// The places of the counts of a page write, also of one of a whole page: of its page, and of
+/// its records.
+pub fn page_counts(tokens: &[String]) -> (usize, usize) {
+    let page = after_list(tokens, 4, 1) + 1;
+    (page, after_list(tokens, page, 1))
+}
+
 /// Puts another count, mostly a wrong one, at the place of a count; among them are counts
 /// that, or whose threefold, are small numbers once they are wrapped at 32 or 64 bits.
 pub fn miscount(random: &mut Random, tokens: &mut [String], at: usize) {

@@ -1,6 +1,7 @@
 //! Tests of whole lines: the bench cases of document 01 as one table, those of request 3
 //! as another, and lines that are no calls. Those of request 1 are in `pages`, of request 4
-//! in `rooms`, of request 5 in `towers`, and of request 6 in `numbers`.
+//! in `rooms`, of request 5 in `towers`, of request 6 in `numbers`, and of request 7 in
+//! `wholes`.
 
 use super::*;
 
@@ -8,6 +9,7 @@ mod numbers;
 mod pages;
 mod rooms;
 mod towers;
+mod wholes;
 
 const KITCHEN: &str = "7 3 1 10 49 82 100 127 27 45 78 9 10 12";
 const ATTIC: &str = "3 1 2 4 1 3 5 7";

@@ -184,6 +184,18 @@ fn edges_of_words() {
         ("pwrite 3 1 2 4 1 3 5 7 1 1 # 0 1 0", "refused 14 page 1 #"),
         ("pwrite 3 1 2 4 1 3 5 7 1 1 5 0 0 #", "refused 7 page 1 5"),
         ("pread 3 1 2 4 1 3 5 7 1 1 # 0 0", "refused 10 "),
+        (
+            "wpage 3 1 2 4 1 3 5 7 1 1 # 0 1 0 1 7",
+            "done page 1 0 notes 1 0",
+        ),
+        (
+            "wpage 3 1 2 4 1 3 5 7 1 1 5 0 1 # 1 7",
+            "done page 1 5 notes 1 7",
+        ),
+        (
+            "wpage 3 1 2 4 1 3 5 7 1 1 # 0 1 0 2 #",
+            "refused 25 page 1 # notes 2 # #",
+        ),
         ("tosheet 1 1 0 1 # 0 0 2 5", "refused 2 0 room 2 5 5"),
         ("tosheet 1 1 0 1 0 0 0 1 #", "refused 1 room 1 #"),
         (
@@ -210,7 +222,7 @@ fn edges_of_words() {
 
 /// Lines with a place of a number that is no word, and a number with which they are answered
 /// and not refused.
-const NUMBERS: [(&str, u128); 28] = [
+const NUMBERS: [(&str, u128); 36] = [
     ("admit # 1 2 4 1 3 5 7", 3),
     ("admit 3 # 2 4 1 3 5 7", 1),
     ("admit 3 1 # 4 1 3 5 7", 2),
@@ -229,6 +241,14 @@ const NUMBERS: [(&str, u128); 28] = [
     ("pread 3 1 2 4 1 3 5 7 9 # 5 0 0", 1),
     ("pread 3 1 2 4 1 3 5 7 9 1 5 # 0", 0),
     ("pread 3 1 2 4 1 3 5 7 9 1 5 0 #", 4),
+    ("wpage 3 1 2 4 1 3 5 7 # 1 5 1 0 0 0 1 0 1 7", 9),
+    ("wpage 3 1 2 4 1 3 5 7 9 # 5 1 0 0 0 1 0 1 7", 1),
+    ("wpage 3 1 2 4 1 3 5 7 9 1 5 # 0 0 0 1 0 1 7", 1),
+    ("wpage 3 1 2 4 1 3 5 7 9 1 5 1 # 0 0 1 0 1 7", 0),
+    ("wpage 3 1 2 4 1 3 5 7 9 1 5 1 0 # 0 1 0 1 7", 2),
+    ("wpage 3 1 2 4 1 3 5 7 9 1 5 1 0 0 # 1 0 1 7", 1),
+    ("wpage 3 1 2 4 1 3 5 7 9 1 5 1 0 0 0 # 0 1 7", 1),
+    ("wpage 3 1 2 4 1 3 5 7 9 1 5 1 0 0 0 1 0 # 7", 1),
     ("open # 1 2 4 1 3 5 7", 3),
     ("open 3 # 2 4 1 3 5 7", 1),
     ("open 3 1 # 4 1 3 5 7", 2),
