@@ -5,13 +5,10 @@ ghost use lib.ListN.{take};
 ghost use Rattle.paper.specs.Page.{mostRecords, pageWrites, pageAfter};
 ghost use Rattle.paper.specs.Refusals.{written};
 ghost use Rattle.paper.specs.Sheet.{sheet};
-use paper::MOST_RECORDS;
+use held::ROOM_RECORDS;
 use paper::StuckCell;
 use paper::Word;
 use paper::Written;
-
-// The most records that are lent: one more than a page may have, so that too many are still refused.
-pub const ROOM_RECORDS: usize = MOST_RECORDS + 1;
 
 // `page::page_write` with the first `count` records of an array. It is walked by hand, for its `&[StuckCell]`: no branch, one call.
 pub fn page_write(

@@ -1,2 +1,3 @@
 -- What every call on a page does first.
 pub mod Judging
+pub mod Crowded

@@ -28,7 +28,8 @@ module _ (s : Sheet) (rs : List StuckCell) (w : ℕ) where
   puts-at nowhere e = rw (e, stuck-passes s _ _ (unbroken-stuck s rs e))
   puts-at (at i) e = rw e
 
-puts-slot : (s : Sheet) → Sound s → (records : List StuckCell) (slot w : ℕ)
+-- what the records of a slot gather to is written as the definition says
+pub puts-slot : (s : Sheet) → Sound s → (records : List StuckCell) (slot w : ℕ)
     → putsAdmitted s (gatherOf slot (s .n) records) w ≡ slotWrites s (recordsOf slot records) w
 unfolding gatherOf
 puts-slot s ok records slot w =

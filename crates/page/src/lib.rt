@@ -20,8 +20,8 @@ use paper::Written;
 use records::Gathered;
 use records::gather;
 
-// Writes one slot, past the rules of sheet and page: 15, then the writer, whose word is put in the slot.
-fn put(
+// Writes one slot, past the rules of sheet and page: 15, then the writer, whose word is put in the slot. For a caller that has judged sheet and page.
+pub fn put(
     n: u32,
     k: u32,
     l: u32,

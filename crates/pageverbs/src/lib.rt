@@ -11,7 +11,7 @@ ghost use Rattle.lines.specs.Shapes.{Stands, Records};
 ghost use Rattle.pageverbs.specs.Pages.{roomSlots, roomRecords, recordsFrom, recordsEnd, pageIn, pageWritten, pwriteText, pageRead};
 use answers::say;
 use answers::say_list;
-use lent::ROOM_RECORDS;
+use held::ROOM_RECORDS;
 use paper::MOST_SLOTS;
 use paper::StuckCell;
 use paper::Word;

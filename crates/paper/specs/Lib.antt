@@ -1,4 +1,4 @@
--- The definitions of document 01, a file for each of its headings, those of the change requests (Page, Tables), and the words that the promises use beside them (Promised).
+-- The definitions of document 01, a file for each of its headings, those of the change requests (Page, WholePage, Tables), and the words that the promises use beside them (Promised).
 -- What must be believed is all here; no lemma is.
 --
 -- How to read them: `leb a b`, `ltb a b` and `eqb a b` are the tests a ≤ b, a < b and a = b; `&&`, `||` and `not` join them, and `cond test x y` is
@@ -14,5 +14,6 @@ pub mod Writing
 pub mod Reading
 pub mod Plate
 pub mod Page
+pub mod WholePage
 pub mod Tables
 pub mod Promised

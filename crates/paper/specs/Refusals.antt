@@ -4,7 +4,7 @@ use mathlib.Core.List.{List, [], _∷_}
 use Prim.Native.Nat.{ℕ, _+_}
 use Rattle.paper.specs.First.{First, nowhere, at}
 use Rattle.paper.specs.declared.Refusal.{Refusal}
-use Rattle.paper.specs.declared.Refusal.the-variants.{Shape, Stray, OffCode, OffMessage, DependentG0, DependentH, Message, Stuck, NoWord, ReadWord, Limit, NoCodeword, Crowded, NoSlot, Record, Plate, OtherShape}
+use Rattle.paper.specs.declared.Refusal.the-variants.{Shape, Stray, OffCode, OffMessage, DependentG0, DependentH, Message, Stuck, NoWord, ReadWord, Limit, NoCodeword, Crowded, NoSlot, Record, Plate, OtherShape, Lengths}
 use Rattle.paper.specs.declared.Admission.{Admission}
 use Rattle.paper.specs.declared.Admission.the-variants as Admission
 use Rattle.paper.specs.declared.Written.{Written}
@@ -58,6 +58,7 @@ reason NoSlot = bare 14
 reason (Record place) = giving 15 place
 reason Plate = bare 16
 reason OtherShape = bare 24
+reason Lengths = bare 25
 
 -- "the refusal carries its reason"
 abbrev pub refused : Refusal → Told

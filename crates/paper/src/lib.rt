@@ -25,7 +25,9 @@ pub const MOST_RECORDS: usize = 256;
 // The largest plate number, which says that d1 is more than the largest cap: `mostNumber` of specs/Page.antt.
 pub const MOST_NUMBER: u32 = 9;
 
-// A record of the list in which a page's stuck cells arrive: "each naming slot, cell and level".
+// A record of the list in which a page's stuck cells arrive: "each naming slot, cell and level". A list of them
+// passes to and from C as it lies.
+#[repr(C)]
 pub struct StuckCell {
     pub slot: u32,
     pub cell: u32,
@@ -51,6 +53,7 @@ pub enum Refusal {
     Record { place: usize },
     Plate,
     OtherShape,
+    Lengths,
 }
 
 // What admitting a sheet answers.

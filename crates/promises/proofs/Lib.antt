@@ -14,12 +14,15 @@ pub mod Printed
 pub mod Useless
 pub mod PageOrder
 pub mod PagePinned
+pub mod WholeOrder
 pub mod Pages
 pub mod PageRecords
 pub mod PageDemands
 pub mod PagePlate
 pub mod PageRepeats
 pub mod PageBench
+pub mod Whole
+pub mod WholeBench
 pub mod Alike
 pub mod TableOrder
 pub mod Tables

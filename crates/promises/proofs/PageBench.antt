@@ -44,7 +44,7 @@ _gives_leaving_ : Call → Told → List ℕ → Case
 call gives told leaving after = record { call = call; told = told; after = after }
 
 -- a record: slot, cell and level
-stuck : ℕ → ℕ → ℕ → StuckCell
+unfoldable pub stuck : ℕ → ℕ → ℕ → StuckCell
 stuck slot cell level = record { slot = slot; cell = cell; level = level }
 
 -- a sheet with d1 = 9: message 1 turns over all of nine cells

@@ -29,10 +29,10 @@ use Rattle.promises.proofs.Order.{unchosen, unheard, from-9, either-9, 
 -- ---- 13: "more than 256 records or 2,048 slots"
 
 module _ (page : List ℕ) (records : List StuckCell) where
-  few-both : ((fewSlots page && fewRecords records) ≡ true) ↔ ((length page ≤ mostSlots) × (length records ≤ mostRecords))
+  pub few-both : ((fewSlots page && fewRecords records) ≡ true) ↔ ((length page ≤ mostSlots) × (length records ≤ mostRecords))
   few-both = both (length page) mostSlots (length records) mostRecords
 
-  crowded : ((fewSlots page && fewRecords records) ≡ false) ↔ ((mostRecords < length records) ⊎ (mostSlots < length page))
+  pub crowded : ((fewSlots page && fewRecords records) ≡ false) ↔ ((mostRecords < length records) ⊎ (mostSlots < length page))
   crowded = let i = not-both (length page) mostSlots (length records) mostRecords in (
     λ e. elim (i .0 e) [ inl h ↦ inr h | inr h ↦ inl h ],
     λ h. i .1 (elim h [ inl p ↦ inr p | inr p ↦ inl p ]),

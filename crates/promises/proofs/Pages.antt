@@ -4,13 +4,14 @@ use mathlib.Core.Path.{_≡_, refl, sym, ap, _∙_}
 use mathlib.Core.List.{List, _∷_, _++_}
 use Prim.Native.Nat.{ℕ, _*_, _≤_, _<_}
 use borrow.Author.Tests.{le-leb, lt-ltb}
-use lib.ListN.{length, getD, length-set}
+use lib.ListN.{length, getD}
 use lib.Seq.{getD-set-other}
 use Rattle.paper.specs.Refusals.{Told, answer, more, refusal}
 use Rattle.paper.specs.Sheet.{Sheet}
 use Rattle.paper.specs.Page.{mostSlots, mostRecords, mostNumber, recordsOf, paged, pageWrites, pageAfter, slotReads, pageReads}
 use Rattle.paper.specs.declared.StuckCell.{StuckCell}
 use Rattle.rules.proofs.Both.{both}
+use Rattle.rules.proofs.Rooms.{length-kept}
 use Rattle.records.proofs.Lists.{records-append, record-other}
 
 -- ---- this slot's records
@@ -90,11 +91,6 @@ module _ (page : List ℕ) (slot : ℕ) where
   others-kept (answer values) j ne = getD-set-other page slot j (getD values 0 0) 0 ne
   others-kept (more values) j ne = refl
   others-kept (refusal number given) j ne = refl
-
-  pub length-kept : (told : Told) → length (pageAfter told page slot) ≡ length page
-  length-kept (answer values) = length-set page slot (getD values 0 0)
-  length-kept (more values) = refl
-  length-kept (refusal number given) = refl
 
   -- "A refused call .. changes nothing lent"
   pub refused-kept : (told : Told) (number : ℕ) (given : List ℕ) → told ≡ refusal number given → pageAfter told page slot ≡ page

@@ -16,6 +16,10 @@ abbrev pub gatheredAt : First → List StuckCell → Gathered
 gatheredAt nowhere rs = record { broken = false; place = length rs; mask = stuckBy rs; levels = levelsBy rs }
 gatheredAt (at i) rs = record { broken = true; place = i; mask = 0; levels = 0 }
 
+-- what no records gather to
+abbrev pub nothing : Gathered
+nothing = record { broken = false; place = 0; mask = 0; levels = 0 }
+
 -- what the records of a slot gather to over n cells. A cell at the width or above is no cell of a machine's word, whatever n is: no sheet with so many is admitted
 unfoldable pub gatherOf : ℕ → ℕ → List StuckCell → Gathered
 gatherOf slot n records = gatheredAt (firstBroken (min n width) (recordsOf slot records)) (recordsOf slot records)

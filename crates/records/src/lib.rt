@@ -32,8 +32,8 @@ fn breaks_rule(acc: Gathered, r: StuckCell, n: u32) -> bool
     (acc.mask >> r.cell) % 2 == 1 && (acc.levels >> r.cell) % 2 != r.level as Word
 }
 
-// One record more.
-fn step(acc: Gathered, r: StuckCell, slot: u32, n: u32) -> Gathered
+// One record more: the one place that says what a record does to what was gathered before it.
+pub fn step(acc: Gathered, r: StuckCell, slot: u32, n: u32) -> Gathered
     requires { ⌜ acc .place + 1 < 2 ^ 64 ⌝ }
     ensures { λ out. ⌜ out ≡ stepOf slot n acc r ⌝ }
 {

@@ -6,14 +6,14 @@ use Prim.Native.Nat.{ℕ}
 use lib.ListN.{getD}
 use Rattle.paper.specs.Refusals.{reason}
 use Rattle.paper.specs.declared.Refusal.{Refusal}
-use Rattle.paper.specs.declared.Refusal.the-variants.{Shape, Stray, OffCode, OffMessage, DependentG0, DependentH, Message, Stuck, NoWord, ReadWord, Limit, NoCodeword, Crowded, NoSlot, Record, Plate, OtherShape}
+use Rattle.paper.specs.declared.Refusal.the-variants.{Shape, Stray, OffCode, OffMessage, DependentG0, DependentH, Message, Stuck, NoWord, ReadWord, Limit, NoCodeword, Crowded, NoSlot, Record, Plate, OtherShape, Lengths}
 
 -- the reasons by their numbers, from 0 on; the first stands in for a number that none has
 reasons : ℕ → List Refusal
 reasons given =
     Shape ∷ Shape ∷ Stray given ∷ OffCode given ∷ OffMessage given ∷ DependentG0 given ∷ DependentH given ∷ Message ∷ Stuck given ∷ NoWord
     ∷ ReadWord given ∷ Limit ∷ NoCodeword given ∷ Crowded ∷ NoSlot ∷ Record given ∷ Plate ∷ Shape ∷ Shape ∷ Shape ∷ Shape ∷ Shape ∷ Shape ∷ Shape
-    ∷ OtherShape ∷ []
+    ∷ OtherShape ∷ Lengths ∷ []
 
 -- the reason of a number and of what is given with it
 pub reasonOf : ℕ → List ℕ → Refusal
@@ -38,3 +38,4 @@ told-back NoSlot = refl
 told-back (Record place) = refl
 told-back Plate = refl
 told-back OtherShape = refl
+told-back Lengths = refl

@@ -215,6 +215,7 @@ pub fn of_refusal(why: Refusal) -> Numbers
         Refusal::Record { place } => giving_index(15, place),
         Refusal::Plate => bare(16),
         Refusal::OtherShape => bare(24),
+        Refusal::Lengths => bare(25),
     }
 }
 

@@ -63,7 +63,7 @@ use Rattle.page.proofs.page_write as write
 use Rattle.page.proofs.page_write.Symbol as write-def
 use Rattle.page.proofs.page_write.Symbol.{name as #page·page-write}
 use Rattle.page.proofs.page_write.Met as write-thm
-use Rattle.lent.proofs.Parts.{Records, arr, valsOf, av, Elems, past, cut, glue, laid, cleared}
+use Rattle.held.proofs.Parts.{Records, arr, valsOf, av, Elems, past, cut, glue, laid, cleared}
 use Rattle.lent.proofs.page_write.Key.{name as #lent·page-write}
 use Rattle.lent.proofs.page_write as pw
 use Rattle.lent.proofs.page_write.Statement as stated

@@ -1,0 +1,2 @@
+-- How many slots are gathered in one pass.
+pub mod Runs
