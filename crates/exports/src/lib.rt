@@ -1,11 +1,14 @@
 // The calls for a program in C or Rust, which links the archive of `rt staticlib exports`: a slice passes as a pointer and a length, and
-// an answer as the numbers that it tells. None asks anything of what it is handed, none writes to what it is lent.
+// an answer as the numbers that it tells. None asks anything of what it is handed, and none but `namestore_page_write_all`, which writes to
+// page and notes, writes to what it is lent.
 ghost use mathlib.Core.Path.{_≡_};
 ghost use Rattle.paper.specs.Sheet.{sheet, admits};
 ghost use Rattle.paper.specs.Writing.{writes};
 ghost use Rattle.paper.specs.Reading.{reads};
 ghost use Rattle.paper.specs.Plate.{measuresD0, measuresD1};
+ghost use Rattle.paper.specs.WholePage.{wholeWrites, wholePage, wholeNotes};
 ghost use Rattle.told.specs.Telling.{tells};
+use paper::StuckCell;
 use paper::Word;
 use told::Numbers;
 
@@ -62,4 +65,25 @@ pub extern "C" fn namestore_d1(n: u32, k: u32, l: u32, rows: &[Word], cap: u32) 
     ensures { λ r. ⌜ tells r ≡ measuresD1 (sheet n k l (now (rows .entry))) cap ⌝ }
 {
     told::of_d1(store::measure_d1(n, k, l, rows, cap))
+}
+
+// Writes a message to each slot of a page and notes each slot: `whole::page_write_all`. It is walked by hand, for its `&[StuckCell]`: no branch, two calls.
+#[no_mangle]
+pub extern "C" fn namestore_page_write_all(
+    n: u32,
+    k: u32,
+    l: u32,
+    rows: &[Word],
+    number: u32,
+    page: &mut [Word],
+    records: &[StuckCell],
+    messages: &[Word],
+    notes: &mut [Word],
+) -> Numbers
+    ensures { λ r. ⌜ tells r ≡ wholeWrites (sheet n k l (now (rows .entry))) number (now (page .entry)) (now (records .entry)) (now (messages .entry)) (now (notes .entry)) ⌝ }
+    ensures { λ _. ⌜ now (page .exit) ≡ wholePage (sheet n k l (now (rows .entry))) number (now (page .entry)) (now (records .entry)) (now (messages .entry)) (now (notes .entry)) ⌝ }
+    ensures { λ _. ⌜ now (notes .exit) ≡ wholeNotes (sheet n k l (now (rows .entry))) number (now (page .entry)) (now (records .entry)) (now (messages .entry)) (now (notes .entry)) ⌝ }
+{
+    let answer = whole::page_write_all(n, k, l, rows, number, page, records, messages, notes);
+    told::of_outcome(answer)
 }

@@ -3,4 +3,4 @@ use Prim.Native.Nat.{ℕ}
 
 -- how many there are
 abbrev pub run : ℕ
-run = 256
+run = 128

@@ -15,7 +15,7 @@ use records::step;
 pub const ROOM_RECORDS: usize = MOST_RECORDS + 1;
 
 // How many slots are gathered in one pass: `run` of specs/Runs.antt.
-pub const RUN: usize = 256;
+pub const RUN: usize = 128;
 
 // How many of so many records are held.
 pub fn count_held(count: usize) -> usize

@@ -38,7 +38,7 @@ module _ (s : Sheet) (number : ℕ) (page : List ℕ) (records : List StuckCell)
   notesThrough notes zero = notes
   notesThrough notes (suc i) = set (notesThrough notes i) i (note (pageWrites s number (pageThrough i) records i (getD messages i 0)))
 
-  -- what page and notes hold after the call: those of all slots, or what they held where it "stop[s] it before any change to page or list"
+  -- what page and notes hold after the call: those of all slots, or what they held, since refusals that concern the sheet or page "stop it before any change to page or list"
   abbrev pub wholePage : List ℕ → List ℕ
   wholePage notes = leaves (wholeWrites s number page records messages notes) (pageThrough (length page)) page
 

@@ -15,7 +15,9 @@ ghost use Rattle.held.specs.Runs.{run};
 ghost use Rattle.whole.specs.Slots.{slotTold, pageOf, notesOf, Writable};
 use held::ROOM_RECORDS;
 use held::RUN;
+use held::count_held;
 use held::gather_run;
+use held::hold;
 use opening::admit;
 use opening::are_few;
 use page::put;
@@ -161,4 +163,26 @@ pub fn write_held(
     }
     write_runs(n, k, l, rows, page, held, count, messages, notes);
     Outcome::Done
+}
+
+// Writes a message to each slot of a page, around the stuck cells that the records name: refusals 1 to 6, 16, 13 and 25 stop it before any change; a slot's 15, 7 or 9 is noted by
+// its number, and a written slot's note is 0. It is walked by hand, for its `&[StuckCell]`: no branch, three calls.
+pub fn page_write_all(
+    n: u32,
+    k: u32,
+    l: u32,
+    rows: &[Word],
+    number: u32,
+    page: &mut [Word],
+    records: &[StuckCell],
+    messages: &[Word],
+    notes: &mut [Word],
+) -> Outcome
+    ensures { λ r. ⌜ outcome r ≡ wholeWrites (sheet n k l (now (rows .entry))) number (now (page .entry)) (now (records .entry)) (now (messages .entry)) (now (notes .entry)) ⌝ }
+    ensures { λ _. ⌜ now (page .exit) ≡ wholePage (sheet n k l (now (rows .entry))) number (now (page .entry)) (now (records .entry)) (now (messages .entry)) (now (notes .entry)) ⌝ }
+    ensures { λ _. ⌜ now (notes .exit) ≡ wholeNotes (sheet n k l (now (rows .entry))) number (now (page .entry)) (now (records .entry)) (now (messages .entry)) (now (notes .entry)) ⌝ }
+{
+    let count = count_held(records.len());
+    let held = hold(records, count);
+    write_held(n, k, l, rows, number, page, held, count, messages, notes)
 }
