@@ -1,7 +1,7 @@
 // Words of cells: the product of two words, the products with the rows of a part of a sheet, sums of rows,
 // the lowest cell, and the cells at n or above.
 ghost use mathlib.Core.Path.{_≡_};
-ghost use Prim.Native.Nat.{_%_, _^_, _≤_, _<_};
+ghost use Prim.Native.Nat.{_%_, _^_, _≤_, _<_, min};
 ghost use lib.Dec.{eqb, ltb};
 ghost use lib.ListN.{length};
 ghost use Rattle.paper.specs.First.{first};
@@ -48,16 +48,27 @@ pub fn products_of(rows: &[Word], x: Word) -> Word
     word
 }
 
-// The sum of the rows that d picks, bit j for row j. A row is multiplied by its bit, as the definition has it: a branch on the bits of a message would be guessed wrong every other time.
+// How many of so many rows the bits of a word can pick: as many as it has cells.
+fn pickable(count: usize) -> usize
+    ensures { λ r. ⌜ r ≡ min count width ⌝ }
+{
+    if count < WIDTH as usize {
+        count
+    } else {
+        WIDTH as usize
+    }
+}
+
+// The sum of the rows that d picks, bit j for row j. A row is multiplied by its bit, and each bit is taken from d itself: so no branch hangs on the bits of a message, which would be guessed
+// wrong every other time, and the compiler takes several rows at once.
 pub fn sum_of(rows: &[Word], d: Word) -> Word
     ensures { λ r. ⌜ r ≡ sum (now (rows .entry)) d ⌝ }
 {
+    let count = pickable(rows.len());
     let mut word: Word = 0;
-    let mut left = d;
     let mut i = 0;
-    while i < rows.len() {
-        word = word ^ (left % 2 * rows[i]);
-        left = left / 2;
+    while i < count {
+        word = word ^ ((d >> (i as u32)) % 2 * rows[i]);
         i += 1;
     }
     word
