@@ -1,4 +1,3 @@
--- The laws of records on a line, and of lists that are too long.
--- The functions' proofs cite them.
-pub mod Lists
-pub mod Crowded
+-- The law of pages and records that are too many.
+-- The functions' proofs cite it.
+mod Crowded

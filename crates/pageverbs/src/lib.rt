@@ -1,27 +1,27 @@
 // The verbs of the console that lend a page: pread and pwrite.
 ghost use mathlib.Core.Path.{_≡_};
 ghost use Prim.Native.Nat.{_+_, _*_, _≤_};
-ghost use lib.ListN.{length, take, drop};
+ghost use lib.ListN.{length, take};
 ghost use Rattle.paper.specs.Page.{pageAfter};
 ghost use Rattle.text.specs.Bytes.{bytes};
 ghost use Rattle.text.specs.Puts.{Put};
 ghost use Rattle.told.specs.Telling.{tells};
 ghost use Rattle.lines.specs.Arguments.{at};
-ghost use Rattle.lines.specs.Shapes.{Stands, Records};
-ghost use Rattle.pageverbs.specs.Pages.{roomSlots, roomRecords, recordsFrom, recordsEnd, pageIn, pageWritten, pwriteText, pageRead};
+ghost use Rattle.lines.specs.Shapes.{Stands};
+ghost use Rattle.rooms.specs.Lent.{roomSlots, recordsEnd, pageIn};
+ghost use Rattle.pageverbs.specs.Pages.{pageWritten, pwriteText, pageRead};
 use answers::say;
 use answers::say_list;
 use held::ROOM_RECORDS;
 use paper::MOST_SLOTS;
-use paper::StuckCell;
 use paper::Word;
+use rooms::ROOM_SLOTS;
+use rooms::copy_page;
+use rooms::copy_records;
 use text::smaller;
 use told::Numbers;
 use told::of_reading;
 use told::of_written;
-
-// The room for a page: one slot more than a page may have.
-const ROOM_SLOTS: usize = MOST_SLOTS + 1;
 
 // `pread SHEET number LIST slot radius`.
 pub fn pread(ns: &[Word]) -> Numbers
@@ -42,47 +42,6 @@ pub fn pread(ns: &[Word]) -> Numbers
         ns[end] as u32,
         ns[end + 1] as u32,
     ))
-}
-
-// The words from a place on, in a room.
-fn copy_page(ns: &[Word], from: usize, count: usize) -> [Word; ROOM_SLOTS]
-    requires { ⌜ count ≤ roomSlots ⌝ }
-    requires { ⌜ from + count ≤ length (now ns) ⌝ }
-    ensures { λ r. ⌜ take count r ≡ take count (drop from (now (ns .entry))) ⌝ }
-{
-    let mut page = [0; ROOM_SLOTS];
-    let mut i = 0;
-    while i < count {
-        page[i] = ns[from + i];
-        i += 1;
-    }
-    page
-}
-
-// The records from a place on, in a room.
-fn copy_records(ns: &[Word], from: usize, count: usize) -> [StuckCell; ROOM_RECORDS]
-    requires { ⌜ count ≤ roomRecords ⌝ }
-    requires { ⌜ from + 3 * count ≤ length (now ns) ⌝ }
-    requires { ⌜ Records count from (now ns) ⌝ }
-    ensures { λ r. ⌜ take count r ≡ recordsFrom count from (now (ns .entry)) ⌝ }
-{
-    let none = StuckCell {
-        slot: 0,
-        cell: 0,
-        level: 0,
-    };
-    let mut records = [none; ROOM_RECORDS];
-    let mut i = 0;
-    while i < count {
-        let at = from + 3 * i;
-        records[i] = StuckCell {
-            slot: ns[at] as u32,
-            cell: ns[at + 1] as u32,
-            level: ns[at + 2] as u8,
-        };
-        i += 1;
-    }
-    records
 }
 
 // Writes a slot of the lent copy of the line's page. Of a page or of records that are too many, one more than there may be are enough to tell it.

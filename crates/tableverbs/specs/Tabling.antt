@@ -1,17 +1,14 @@
 -- Tabling: the calls on three small tables, by the numbers of their lines, and the texts of their answers, which end with the lent rooms.
 use mathlib.Core.List.{List, _++_}
 use Prim.Native.Nat.{ℕ, _+_}
-use lib.ListN.{length, replicate}
+use lib.ListN.{length}
 use Rattle.paper.specs.Refusals.{Told, leaves}
 use Rattle.paper.specs.Sheet.{Sheet}
 use Rattle.paper.specs.Tables.{built, builds, tableP, tableR, tableQ, gives}
 use Rattle.text.specs.Bytes.{bytes}
 use Rattle.lines.specs.Arguments.{at, part, sheetIn, behind}
 use Rattle.answers.specs.Answers.{spoken, listed}
-
--- "ROOM size fill" at a place: lent memory of so many entries, each the fill before the call
-abbrev pub roomAt : ℕ → List ℕ → List ℕ
-roomAt i ns = replicate (at ns i) (at ns (i + 1))
+use Rattle.rooms.specs.Lent.{roomAt}
 
 -- ---- `tosheet n k l LIST LIST LIST ROOM`
 

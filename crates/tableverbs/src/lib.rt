@@ -1,55 +1,20 @@
-// The verbs of the console that lend rooms: tosheet and totables. A room is a local of the largest size that a line may ask for, and as much of it is lent as the line asks for.
-ghost use mathlib.Core.Path.{_≡_};
-ghost use Prim.Native.Nat.{ℕ, _+_, _*_, _≤_, _<_};
-ghost use lib.ListN.{length, take, replicate};
+// The verbs of the console that lend rooms: tosheet and totables.
+ghost use Prim.Native.Nat.{_+_, _*_, _≤_};
+ghost use lib.ListN.{length};
 ghost use Rattle.paper.specs.Sheet.{sheet};
 ghost use Rattle.text.specs.Bytes.{bytes};
 ghost use Rattle.text.specs.Puts.{Put};
 ghost use Rattle.told.specs.Telling.{tells};
-ghost use Rattle.lines.specs.Arguments.{part};
-ghost use Rattle.lines.specs.Arguments.{at as Arguments·at};
 ghost use Rattle.lines.specs.Shapes.{Stands, mostRoom};
 ghost use Rattle.tableverbs.specs.Tabling.{sheetText, roomsText, tablesText, tosheetText, totablesText};
 use answers::say;
 use answers::say_list;
-use lines::MOST_ROOM;
 use paper::Word;
+use rooms::list_at;
+use rooms::room_at;
+use rooms::room_of;
 use told::Numbers;
 use told::of_outcome;
-
-// A room that a line asks for: so many entries, each the fill.
-struct Room {
-    size: usize,
-    fill: Word,
-}
-
-// The room at a place of a line.
-fn room_at(ns: &[Word], at: usize) -> Room
-    requires { ⌜ (at + 1 < length (now ns)) × (Arguments·at (now ns) at ≤ mostRoom) ⌝ }
-    ensures { λ r. ⌜ (r .size ≡ Arguments·at (now (ns .entry)) at) × (r .size ≤ mostRoom) × (r .fill ≡ Arguments·at (now (ns .entry)) (at + 1)) ⌝ }
-{
-    Room {
-        size: ns[at] as usize,
-        fill: ns[at + 1],
-    }
-}
-
-// A room of the largest size, each entry the same.
-fn room_of(fill: Word) -> [Word; MOST_ROOM]
-    ensures { λ r. ⌜ ((size : ℕ) → size ≤ mostRoom → take size r ≡ replicate size fill) ⌝ }
-{
-    [fill; MOST_ROOM]
-}
-
-// The words of the list at a place of a line.
-fn list_at(ns: &[Word], at: usize) -> &[Word]
-    requires { ⌜ (at < length (now ns)) × (at + 1 + Arguments·at (now ns) at ≤ length (now ns)) ⌝ }
-    ensures { λ r. ⌜ now r ≡ part (at + 1) (at + 1 + Arguments·at (now (ns .entry)) at) (now (ns .entry)) ⌝ }
-{
-    let from = at + 1;
-    let end = from + ns[at] as usize;
-    &ns[from..end]
-}
 
 // Builds the sheet of the tables in a lent room, and puts the answer, which ends with the room.
 fn build_in(

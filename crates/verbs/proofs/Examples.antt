@@ -9,6 +9,7 @@ use Rattle.paper.specs.Writing.{writes}
 use Rattle.paper.specs.First.{first}
 use Rattle.paper.specs.Plate.{searchD1, measuresAdmittedD1, measuresD1}
 use Rattle.paper.specs.Page.{opens, firstBroken, paged, slotWrites, pageWrites, pageReads}
+use Rattle.paper.specs.WholePage.{wholeWrites, pageThrough, notesThrough}
 use Rattle.paper.specs.Tables.{each, column, built, buildsSized, builds, givesAdmitted, gives}
 use Rattle.text.specs.Bytes.{bytes}
 use Rattle.text.specs.Tokens.{cut, same, upTo}
@@ -17,7 +18,7 @@ use Rattle.text.specs.Puts.{digitsOf}
 use Rattle.lines.specs.Lines.{asked, comes, spelled, lookup}
 use Rattle.lines.specs.Shapes.{fill}
 use Rattle.answers.specs.Answers.{labelled, spaced}
-use Rattle.pageverbs.specs.Pages.{recordsFrom}
+use Rattle.rooms.specs.Lent.{recordsFrom}
 use Rattle.verbs.specs.Replies.{table, reply}
 
 word : reply (asked table (bytes "write 3 1 2 4 1 3 5 7 1 6 2")) ≡ bytes "word 2 d 1\n"
@@ -31,6 +32,10 @@ place = refl
 page : reply (asked table (bytes "pwrite 3 1 2 4 1 3 5 7 9 2 0 7 1 0 1 1 0 1")) ≡ bytes "word 2 d 1 page 2 2 7\n"
 unfolding cut asked comes spelled lookup same fill numeral valued judged paged pageWrites slotWrites firstBroken first recordsFrom labelled spaced upTo digitsOf ones sum
 page = refl
+
+whole : reply (asked table (bytes "wpage 3 1 2 4 1 3 5 7 9 2 0 7 1 0 1 1 2 1 2 2 9")) ≡ bytes "done page 2 2 7 notes 2 0 7\n"
+unfolding cut asked comes spelled lookup same fill numeral valued judged paged pageWrites slotWrites firstBroken first wholeWrites pageThrough notesThrough recordsFrom labelled spaced upTo digitsOf ones sum
+whole = refl
 
 -- a page's number, and one that is none
 plate : reply (asked table (bytes "open 3 1 2 4 1 3 5 7")) ≡ bytes "number 1\n"

@@ -14,10 +14,11 @@ use Rattle.answers.specs.Answers.{spoken}
 use Rattle.lines.specs.Shapes.{mostRoom}
 use Rattle.pageverbs.specs.Pages.{pwriteText, pageRead}
 use Rattle.tableverbs.specs.Tabling.{tosheetText, totablesText}
+use Rattle.wholeverbs.specs.Wholes.{wpageText}
 
 -- the verbs, each with its shape
 abbrev pub table : List ℕ
-table = bytes "admit nnnL write nnnLwww read nnnLwn d0 nnnLn d1 nnnLn pwrite nnnLnLRnw pread nnnLnLnn tosheet nnnLLLmw totables nnnLmwmwmw open nnnL"
+table = bytes "admit nnnL write nnnLwww read nnnLwn d0 nnnLn d1 nnnLn pwrite nnnLnLRnw pread nnnLnLnn tosheet nnnLLLmw totables nnnLmwmwmw open nnnL wpage nnnLnLRLmw"
 
 -- the text of each verb's answer, in the order of the table: what the call's definition tells, spoken
 abbrev pub verbs : List (List ℕ → List ℕ)
@@ -32,6 +33,7 @@ verbs =
     ∷ (λ ns. tosheetText ns)
     ∷ (λ ns. totablesText ns)
     ∷ (λ ns. spoken (bytes "number ") (opens (sheetIn ns)))
+    ∷ (λ ns. wpageText ns)
     ∷ []
 
 -- the text of the answer to a verb's call

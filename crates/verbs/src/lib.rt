@@ -1,5 +1,5 @@
 // The verbs of the console: their names and shapes in the table of `ask`, the call behind each, and its labels in the arms of `reply`. Those that lend a page are
-// functions of `pageverbs`, and those that lend rooms of `tableverbs`.
+// functions of `pageverbs`, those that lend rooms of `tableverbs`, and the one that lends both of `wholeverbs`.
 use answers::say;
 use lines::Line;
 use lines::parse;
@@ -15,6 +15,7 @@ use told::of_d1;
 use told::of_opening;
 use told::of_reading;
 use told::of_written;
+use wholeverbs::wpage;
 ghost use Prim.Native.Nat.{_+_, _*_, _≤_, _<_};
 ghost use mathlib.Core.Path.{_≡_};
 ghost use lib.ListN.{length};
@@ -131,6 +132,7 @@ pub fn reply(verb: usize, ns: &[Word], out: &mut [u8]) -> usize
         7 => tosheet(ns, out),
         8 => totables(ns, out),
         9 => say(out, 0, b"number ", open_page(ns)),
+        10 => wpage(ns, out),
         _ => 0,
     }
 }
@@ -144,7 +146,7 @@ pub fn ask(line: &[u8], ns: &mut [Word]) -> Line
 {
     parse(
         line,
-        b"admit nnnL write nnnLwww read nnnLwn d0 nnnLn d1 nnnLn pwrite nnnLnLRnw pread nnnLnLnn tosheet nnnLLLmw totables nnnLmwmwmw open nnnL",
+        b"admit nnnL write nnnLwww read nnnLwn d0 nnnLn d1 nnnLn pwrite nnnLnLRnw pread nnnLnLnn tosheet nnnLLLmw totables nnnLmwmwmw open nnnL wpage nnnLnLRLmw",
         ns,
     )
 }

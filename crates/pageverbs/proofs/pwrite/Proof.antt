@@ -13,8 +13,9 @@ use Rattle.text.specs.Puts.{Put}
 use Rattle.text.proofs.Puts.{put-text, put-join}
 use Rattle.lines.specs.Arguments.{at, sheetIn, arg}
 use Rattle.answers.specs.Answers.{spoken, listed}
-use Rattle.pageverbs.specs.Pages.{roomSlots, pageAt, pageEnd, pageIn, recordsIn, recordsEnd, pageWritten, pageLeft}
-use Rattle.pageverbs.proofs.Lists.{words-clipped, page-slots}
+use Rattle.rooms.specs.Lent.{roomSlots, pageAt, pageEnd, pageIn, recordsIn, recordsEnd}
+use Rattle.rooms.proofs.Lists.{words-clipped, page-slots}
+use Rattle.pageverbs.specs.Pages.{pageWritten, pageLeft}
 use Rattle.pageverbs.proofs.Crowded.{crowded}
 use Rattle.pageverbs.proofs.pwrite.Statement.{statement}
 use Rattle.pageverbs.proofs.pwrite.Tie as tie

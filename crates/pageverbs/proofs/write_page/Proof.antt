@@ -5,9 +5,10 @@ use borrow.Author.Needs.{needs}
 use native.Mathlib.Omega.{arith}
 use Rattle.paper.specs.Page.{pageAfter}
 use Rattle.paper.specs.Refusals.{Told}
+use Rattle.text.specs.Bytes.{bytes}
 use Rattle.lines.specs.Arguments.{at}
-use Rattle.pageverbs.specs.Pages.{recordsEnd}
-use Rattle.pageverbs.proofs.Lists.{records-hold}
+use Rattle.rooms.specs.Lent.{recordsEnd}
+use Rattle.rooms.proofs.Lists.{records-hold}
 use Rattle.pageverbs.proofs.Crowded.{written-clipped}
 use Rattle.pageverbs.proofs.write_page.Statement.{statement}
 use Rattle.pageverbs.proofs.write_page.Tie as tie
@@ -15,7 +16,7 @@ use Rattle.pageverbs.proofs.write_page.Tie as tie
 copy-records-requires : tie.Need-copy-records-requires
 copy-records-requires c κs =
     let c6 = c .before .before .before .before .before .before in
-    let held = records-hold (c6 .args .ns .now) (c6 .pre .0) in
+    let held = records-hold (bytes "nw") (c6 .args .ns .now) (c6 .pre .0) in
     (omega (arith, c .smaller .ensures), (omega (arith, c .smaller .ensures), λ j h. held j (omega (arith, c .smaller .ensures))))
 
 returns : tie.Need-returns

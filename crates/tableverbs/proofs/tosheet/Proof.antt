@@ -9,8 +9,8 @@ use lib.ListN.{length-take, replicate}
 use lib.Seq.{length-take-le}
 use Rattle.text.proofs.Puts.{put-text}
 use Rattle.lines.specs.Arguments.{at}
+use Rattle.rooms.proofs.Rooms.{lent-few}
 use Rattle.tableverbs.specs.Tabling.{sheetText}
-use Rattle.tableverbs.proofs.Rooms.{lent-few}
 use Rattle.tableverbs.proofs.tosheet.Statement.{statement}
 use Rattle.tableverbs.proofs.tosheet.Tie as tie
 

@@ -12,8 +12,8 @@ use Rattle.text.specs.Bytes.{bytes}
 use Rattle.text.proofs.Puts.{put-text}
 use Rattle.lines.specs.Arguments.{at}
 use Rattle.lines.specs.Shapes.{Stands}
+use Rattle.rooms.proofs.Rooms.{lent-few}
 use Rattle.tableverbs.specs.Tabling.{tablesText}
-use Rattle.tableverbs.proofs.Rooms.{lent-few}
 use Rattle.tableverbs.proofs.totables.Statement.{statement}
 use Rattle.tableverbs.proofs.totables.Tie as tie
 

@@ -70,6 +70,12 @@ open-page-requires : tie.Need-open-page-requires
 unfolding cut
 open-page-requires c κs = placed (c .before .before .before .before .before) 9 (omega arith)
 
+wpage-requires : tie.Need-wpage-requires
+unfolding cut
+wpage-requires c κs =
+    let c4 = c .before .before .before .before in
+    (placed (c4) 10 (omega arith), omega (arith, c4 .pre .1))
+
 returns : tie.Need-returns
 returns c =
     let c3 = c .before .before .before in
@@ -134,19 +140,24 @@ returns-10 c =
     let s = c .before .before .say7 in
     (put-text (ap (spoken (bytes "number ")) (c3 .open-page .ensures) ∙ is (c9) 9 (omega arith)) (s .ensures .0), omega (arith, s .ensures .1))
 
+returns-11 : tie.Need-returns-11
+returns-11 c =
+    let p = c .before .before .wpage .ensures in
+    (put-text (is (c .before .before .before .before .before .before .before) 10 (omega arith)) (p .0), omega (arith, p .1))
+
 -- one verb of the table after the other is passed by
 pass : (k v : ℕ) → k ≤ v → (v ≡ k → ⊥) → suc k ≤ v
 pass k v h n = omega (arith, n)
 
-returns-11 : tie.Need-returns-11
-returns-11 c =
+returns-12 : tie.Need-returns-12
+returns-12 c =
     let a = c .before .before .before .args in
     let v = a .verb in
-    let r8 = c .match .rest .0 in
-    let r6 = r8 .0 .0 in
-    let r4 = r6 .0 .0 in
-    let five = pass 4 v (pass 3 v (pass 2 v (pass 1 v (pass 0 v (omega arith) (r4 .0 .0 .0 .0 .1)) (r4 .0 .0 .0 .1)) (r4 .0 .0 .1)) (r4 .0 .1)) (r4 .1) in
-    let far : 10 ≤ v = pass 9 v (pass 8 v (pass 7 v (pass 6 v (pass 5 v five (r6 .0 .1)) (r6 .1)) (r8 .0 .1)) (r8 .1)) (c .match .rest .1) in
+    let r9 = c .match .rest .0 in
+    let r7 = r9 .0 .0 in
+    let r5 = r7 .0 .0 in
+    let six = pass 5 v (pass 4 v (pass 3 v (pass 2 v (pass 1 v (pass 0 v (omega arith) (r5 .0 .0 .0 .0 .0 .1)) (r5 .0 .0 .0 .0 .1)) (r5 .0 .0 .0 .1)) (r5 .0 .0 .1)) (r5 .0 .1)) (r5 .1) in
+    let far : 11 ≤ v = pass 10 v (pass 9 v (pass 8 v (pass 7 v (pass 6 v six (r7 .0 .1)) (r7 .1)) (r9 .0 .1)) (r9 .1)) (c .match .rest .1) in
     (put-text (sym (ap (λ (f : List ℕ → List ℕ). f (a .ns .now)) (List·getD-eq-default verbs (λ ns. []) far))) (put-nothing (a .out .now) 0), omega arith)
 
 pub reply-spec : {M : Type 1} → statement M
@@ -163,6 +174,7 @@ reply-spec =
     tosheet-requires
     totables-requires
     (λ c. search needs) open-page-requires (λ c κs. search needs)
+    wpage-requires
     (λ c. search needs) returns
     (λ c. search needs) returns-2
     (λ c. search needs) returns-3
@@ -173,4 +185,5 @@ reply-spec =
     (λ c. search needs) returns-8
     (λ c. search needs) returns-9
     (λ c. search needs) returns-10
-    returns-11)
+    (λ c. search needs) returns-11
+    returns-12)

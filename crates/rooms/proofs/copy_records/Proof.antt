@@ -4,10 +4,10 @@ use mathlib.Core.Path.{_≡_, refl, subst}
 use Prim.Native.Nat.{ℕ, _-_, _≤_}
 use native.Mathlib.Omega.{arith}
 use lib.ListN.{length, take, length-set}
-use Rattle.pageverbs.specs.Pages.{roomRecords, recordsFrom}
-use Rattle.pageverbs.proofs.Lists.{records-none, record-stored}
-use Rattle.pageverbs.proofs.copy_records.Statement.{statement}
-use Rattle.pageverbs.proofs.copy_records.Tie as tie
+use Rattle.rooms.specs.Lent.{roomRecords, recordsFrom}
+use Rattle.rooms.proofs.Lists.{records-none, record-stored}
+use Rattle.rooms.proofs.copy_records.Statement.{statement}
+use Rattle.rooms.proofs.copy_records.Tie as tie
 
 abbrev Inv-loop : tie.InvT-loop
 Inv-loop ns from count records₀ i₀ records i = (i ≤ count) × (length records ≡ roomRecords) × (take i records ≡ recordsFrom i from ns)

@@ -13,7 +13,7 @@ use Rattle.text.specs.Bytes.{bytes}
 use Rattle.lines.specs.Arguments.{at, part}
 use Rattle.lines.specs.Shapes.{Records, Stands}
 use Rattle.lines.proofs.Shapes.{records-fit}
-use Rattle.pageverbs.specs.Pages.{pageAt, pageEnd, pageIn, recordAt, recordsFrom}
+use Rattle.rooms.specs.Lent.{pageAt, pageEnd, pageIn, recordAt, recordsFrom}
 
 -- one record more
 records-more : (count i : ℕ) (ns : List ℕ) → recordsFrom (suc count) i ns ≡ recordsFrom count i ns ++ (recordAt (i + 3 * count) ns ∷ [])
@@ -68,9 +68,9 @@ records-clipped held count most i ns e =
 pub page-slots : (ns : List ℕ) → pageEnd ns ≤ length ns → length (pageIn ns) ≡ at ns (pageAt ns)
 page-slots ns h = omega (arith, length-take (pageEnd ns - (pageAt ns + 1)) (drop (pageAt ns + 1) ns), length-drop (pageAt ns + 1) ns)
 
--- the numbers of each record of a write are those that their places hold
-pub records-hold : (ns : List ℕ) → Stands (bytes "nnnLnLRnw") 0 ns → Records (at ns (pageEnd ns)) (pageEnd ns + 1) ns
-records-hold ns h = records-fit (at ns (pageEnd ns)) (pageEnd ns + 1) ns (h .4 .4 .4 .4 .4 .4 .3)
+-- the numbers of each record of a write are those that their places hold, whatever stands behind them
+pub records-hold : (shape ns : List ℕ) → Stands (bytes "nnnLnLR" ++ shape) 0 ns → Records (at ns (pageEnd ns)) (pageEnd ns + 1) ns
+records-hold shape ns h = records-fit (at ns (pageEnd ns)) (pageEnd ns + 1) ns (h .4 .4 .4 .4 .4 .4 .3)
 
 -- a record is stored behind those before it
 pub record-stored : (room : List StuckCell) (from i : ℕ) (ns : List ℕ) → i < length room → take i room ≡ recordsFrom i from ns

@@ -2,13 +2,12 @@
 -- A page that is written is a copy.
 use mathlib.Core.Path.{_≡_, refl, subst}
 use Prim.Native.Nat.{ℕ, _-_, _≤_}
-use borrow.Author.Needs.{needs}
 use native.Mathlib.Omega.{arith}
 use lib.ListN.{length, take, drop, length-set}
-use Rattle.pageverbs.specs.Pages.{roomSlots}
-use Rattle.pageverbs.proofs.Lists.{word-stored}
-use Rattle.pageverbs.proofs.copy_page.Statement.{statement}
-use Rattle.pageverbs.proofs.copy_page.Tie as tie
+use Rattle.rooms.specs.Lent.{roomSlots}
+use Rattle.rooms.proofs.Lists.{word-stored}
+use Rattle.rooms.proofs.copy_page.Statement.{statement}
+use Rattle.rooms.proofs.copy_page.Tie as tie
 
 abbrev Inv-loop : tie.InvT-loop
 Inv-loop ns from count page₀ i₀ page i = (i ≤ count) × (length page ≡ roomSlots) × (take i page ≡ take i (drop from ns))

@@ -1,0 +1,2 @@
+-- What a line lends, by its numbers.
+pub mod Lent
