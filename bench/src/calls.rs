@@ -1,4 +1,5 @@
-//! The five calls on a sheet, and what they tell, in one form for the store and for Rust.
+//! The calls that are compared, five on a sheet and the write of a whole page, and what they tell, in one form for the store and for
+//! Rust.
 
 /// A word of cells, as wide as the store's own (`Word` of the crate `paper`).
 pub type Word = u64;
@@ -55,6 +56,30 @@ impl Sheet {
     }
 }
 
+/// The most slots that a page has, and the most records of its stuck cells.
+pub const MOST_SLOTS: usize = 2048;
+pub const MOST_RECORDS: usize = 256;
+
+/// A record of a stuck cell. This is the store's `StuckCell`, of the crate `paper`, field by field.
+#[repr(C)]
+#[derive(Clone, Copy, Debug)]
+pub struct StuckCell {
+    pub slot: u32,
+    pub cell: u32,
+    pub level: u8,
+}
+
+/// What is lent to a write of a whole page: the page's number, the words of its slots, the records of its stuck cells, and a message
+/// and a note for each slot. The write changes words and notes.
+#[derive(Clone, Debug)]
+pub struct Page {
+    pub number: u32,
+    pub words: Vec<Word>,
+    pub records: Vec<StuckCell>,
+    pub messages: Vec<Word>,
+    pub notes: Vec<Word>,
+}
+
 /// What a call tells: the kind (0 an answer, 1 "more than the cap", 2 a refusal), a refusal's number, and the first `count` of
 /// three values. This is the store's `Numbers`, of the crate `told`, field by field.
 #[repr(C)]
@@ -68,7 +93,7 @@ pub struct Told {
     pub c: u64,
 }
 
-/// One program that makes the five calls.
+/// One program that makes the calls.
 pub trait Calls {
     /// Its name in the table.
     fn name(&self) -> &'static str;
@@ -77,4 +102,5 @@ pub trait Calls {
     fn read(&self, s: &Sheet, y: Word, radius: u32) -> Told;
     fn d0(&self, s: &Sheet, cap: u32) -> Told;
     fn d1(&self, s: &Sheet, cap: u32) -> Told;
+    fn page(&self, s: &Sheet, p: &mut Page) -> Told;
 }

@@ -32,10 +32,10 @@ fn now() -> f64 {
 }
 
 /// The time of so many passes over the calls, in nanoseconds.
-fn passes(count: u64, cases: &[Case], by: &dyn Calls) -> f64 {
+fn passes(count: u64, cases: &mut [Case], by: &dyn Calls) -> f64 {
     let start = now();
     for _ in 0..count {
-        for case in cases {
+        for case in cases.iter_mut() {
             black_box(black_box(case).told(by));
         }
     }
@@ -44,7 +44,7 @@ fn passes(count: u64, cases: &[Case], by: &dyn Calls) -> f64 {
 
 /// Betters the least time of a pass over the calls, for each program: batches of 2 ms or of one pass, in turn, ten rounds or, from
 /// the second on, one second.
-pub fn improve(best: &mut [f64], cases: &[Case], programs: &[&dyn Calls]) {
+pub fn improve(best: &mut [f64], cases: &mut [Case], programs: &[&dyn Calls]) {
     let start = now();
     for round in 0..10 {
         if round >= 1 && now() - start > 1e9 {

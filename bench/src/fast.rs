@@ -1,8 +1,10 @@
 //! What an expert would write. Admission: the columns of H and M at once, summed four cells at a time by tables. Writing: the
-//! rows of G0 at the stuck cells, reduced as they come. Reading and measuring: `halves`.
+//! rows of G0 at the stuck cells, reduced as they come; for a whole page the rows of G1 are summed by tables too. Reading and
+//! measuring: `halves`.
 use crate::calls::*;
 use crate::halves;
 use crate::programs::*;
+use crate::slots::write_slots;
 
 /// The fast program. Its admission finds the columns of H and M.
 pub struct Fast;
@@ -48,15 +50,29 @@ impl Program for Fast {
     fn d1(s: &Sheet, columns: &Columns, cap: u32) -> Measured {
         halves::measure(&columns[..s.n], all_cells(s.r()), cap, true)
     }
+
+    /// The sums of four rows of G1 are made once, for all slots.
+    fn page(s: &Sheet, p: &mut Page) {
+        let sums = fours(&padded(s.g1()), s.k);
+        write_slots(s, p, |message, stuck, levels| {
+            fit(s.g0(), picked(&sums, s.k, message), stuck, levels)
+        });
+    }
 }
 
 /// A word for each cell: bit i is the cell in row i.
 pub type Columns = [Word; WIDTH];
 
+/// At most WIDTH rows, and zeros after them.
+fn padded(rows: &[Word]) -> [Word; WIDTH] {
+    let mut all = [0; WIDTH];
+    all[..rows.len()].copy_from_slice(rows);
+    all
+}
+
 /// The columns of at most WIDTH rows (Hacker's Delight, 7-3).
 fn transposed(rows: &[Word]) -> Columns {
-    let mut a = [0; WIDTH];
-    a[..rows.len()].copy_from_slice(rows);
+    let mut a = padded(rows);
     let (mut j, mut m) = (WIDTH / 2, Word::MAX >> (WIDTH / 2));
     while j != 0 {
         let mut k = 0;
@@ -72,17 +88,26 @@ fn transposed(rows: &[Word]) -> Columns {
     a
 }
 
-/// The sums of every choice among four columns, for each four.
-fn fours(columns: &Columns, n: usize) -> [[Word; 16]; WIDTH / 4] {
+/// Sums of words in fours: of every choice among the four.
+type Fours = [[Word; 16]; WIDTH / 4];
+
+/// The sums of the first n words, in fours.
+fn fours(words: &[Word; WIDTH], n: usize) -> Fours {
     let mut sums = [[0; 16]; WIDTH / 4];
     for (q, four) in sums.iter_mut().enumerate().take(n.div_ceil(4)) {
         for b in 0..4 {
             for x in 0..1 << b {
-                four[x | 1 << b] = four[x] ^ columns[4 * q + b];
+                four[x | 1 << b] = four[x] ^ words[4 * q + b];
             }
         }
     }
     sums
+}
+
+/// The sum of those of the first n words that the bits pick.
+fn picked(sums: &Fours, n: usize, bits: Word) -> Word {
+    let parts = sums[..n.div_ceil(4)].iter().enumerate();
+    parts.fold(0, |x, (q, four)| x ^ four[(bits >> (4 * q)) as usize & 15])
 }
 
 /// The first row that is a sum of earlier ones. `min` clears a kept word's highest bit where x has it; the kept words are
@@ -112,8 +137,7 @@ fn off(s: &Sheet, columns: &Columns) -> Option<Refusal> {
     let mut four = None;
     for (i, &row) in s.rows[..s.k + s.l].iter().enumerate() {
         let own = if i < s.k { 1 << (s.r() + i) } else { 0 };
-        let parts = sums[..s.n.div_ceil(4)].iter().enumerate();
-        let found = parts.fold(own, |x, (q, sum)| x ^ sum[(row >> (4 * q)) as usize & 15]);
+        let found = own ^ picked(&sums, s.n, row);
         if found & all_cells(s.r()) != 0 {
             return Some(Refusal(3, Some(i as u64)));
         }

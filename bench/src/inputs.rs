@@ -1,6 +1,7 @@
 //! What is called: the inputs of each row of the table, which change from call to call, and calls at random to compare answers on.
 use crate::calls::*;
 use crate::fast::{sum, Fast};
+use crate::pages::{any_page, timed_page};
 use crate::sheets::{random, Random};
 
 /// The radius and the cap of the table's longest searches, and the cap at which a list over all cells still ends in time.
@@ -27,6 +28,15 @@ pub enum Call {
     D1 {
         cap: u32,
     },
+    Page(Page),
+}
+
+/// What a program answers, and what it leaves of a page that it was lent.
+#[derive(Debug, PartialEq, Eq)]
+pub struct Answer {
+    pub told: Told,
+    words: Vec<Word>,
+    notes: Vec<Word>,
 }
 
 /// A call on a sheet.
@@ -37,8 +47,8 @@ pub struct Case {
 }
 
 impl Case {
-    /// What a program answers.
-    pub fn told(&self, by: &dyn Calls) -> Told {
+    /// What a program tells. The case keeps what the program leaves of its page.
+    pub fn told(&mut self, by: &dyn Calls) -> Told {
         let s = &self.sheet;
         match self.call {
             Call::Admit => by.admit(s),
@@ -50,16 +60,28 @@ impl Case {
             Call::Read { y, radius } => by.read(s, y, radius),
             Call::D0 { cap } => by.d0(s, cap),
             Call::D1 { cap } => by.d1(s, cap),
+            Call::Page(ref mut page) => by.page(s, page),
         }
+    }
+
+    /// What a program answers. The case stays as it is, so that every program begins with the same page.
+    pub fn answer(&self, by: &dyn Calls) -> Answer {
+        let mut own = self.clone();
+        let told = own.told(by);
+        let (words, notes) = match own.call {
+            Call::Page(page) => (page.words, page.notes),
+            _ => Default::default(),
+        };
+        Answer { told, words, notes }
     }
 
     /// How many listed words are tried, if the call lists any.
     pub fn tried(&self) -> u64 {
-        let told = self.told(&Fast);
+        let told = self.answer(&Fast).told;
         match (&self.call, told.kind) {
             (Call::Read { .. }, 0) => told.c,
             (Call::D0 { .. } | Call::D1 { .. }, 0) => told.b,
-            (Call::Admit | Call::Write { .. }, _) => 0,
+            (Call::Admit | Call::Write { .. } | Call::Page(_), _) => 0,
             _ => told.a,
         }
     }
@@ -135,7 +157,7 @@ fn miss((n, k, l): Sizes, g: &mut Random) -> Case {
                 radius: FAR,
             },
         };
-        if case.told(&Fast).kind == 2 {
+        if case.answer(&Fast).told.kind == 2 {
             return case;
         }
     }
@@ -161,10 +183,36 @@ fn d1(cap: u32) -> impl Fn(Sizes, &mut Random) -> Case {
 fn more(draw: impl Fn(Sizes, &mut Random) -> Case) -> impl Fn(Sizes, &mut Random) -> Case {
     move |sizes, g| loop {
         let case = draw(sizes, g);
-        if case.told(&Fast).kind == 1 {
+        if case.answer(&Fast).told.kind == 1 {
             return case;
         }
     }
+}
+
+/// A write of a whole page with so many slots and records.
+fn whole(slots: usize, records: usize) -> impl Fn(Sizes, &mut Random) -> Case {
+    move |(n, k, l), g| {
+        let sheet = random(n, k, l, g);
+        let page = timed_page(&sheet, slots, records, g);
+        Case {
+            sheet,
+            call: Call::Page(page),
+        }
+    }
+}
+
+/// The rows of whole pages, of an eighth of the slots that a page may have and of all; 16,384 slots in a row, as many as keep the
+/// processor from learning them.
+fn page_rows(wide: Sizes) -> Vec<Row> {
+    let (some, all) = (whole(256, MOST_RECORDS), whole(MOST_SLOTS, MOST_RECORDS));
+    let mut rows = Vec::new();
+    for sizes in [(7, 3, 1), (32, 16, 8), wide] {
+        rows.push(row(sizes, "whole page, 256 slots, 256 records", 64, &some));
+        rows.push(row(sizes, "whole page, 2048 slots, 256 records", 8, &all));
+    }
+    let bare = whole(MOST_SLOTS, 0);
+    rows.push(row(wide, "whole page, 2048 slots, no records", 8, bare));
+    rows
 }
 
 /// The table, at n 7, n 32 and the largest n. Sheets with few codewords have words that no codeword is near to; d0 and d1 are more
@@ -185,16 +233,18 @@ pub fn rows() -> Vec<Row> {
     rows.push(row((32, 2, 24), "d0, cap 8, more", 1, more(d0(CAP))));
     rows.push(row((32, 4, 2), "d1, cap 8, more", 1, more(d1(CAP))));
     rows.push(row((WIDTH, 8, 4), "d1, cap 5, more", 1, more(d1(WIDE_CAP))));
+    rows.extend(page_rows(wide));
     rows
 }
 
-/// A sheet of any sizes, about every other one damaged: a bit, the number of rows, or one of n, k and l.
+/// A sheet of any sizes, about every other one damaged: a bit, the number of rows, one of n, k and l, or a row of G0
+/// or H put in the place of another.
 fn any_sheet(g: &mut Random) -> Sheet {
     let n = 1 + g.below(WIDTH);
     let k = 1 + g.below(n);
     let l = g.below(n - k + 1);
     let mut sheet = random(n, k, l, g);
-    match g.below(10) {
+    match g.below(12) {
         0..=2 => {
             let row = g.below(n + k);
             sheet.rows[row] ^= 1 << g.below(WIDTH);
@@ -204,6 +254,7 @@ fn any_sheet(g: &mut Random) -> Sheet {
             let numbers = [&mut sheet.n, &mut sheet.k, &mut sheet.l];
             *numbers[g.below(3)] = [0, 1, WIDTH, WIDTH + 1][g.below(4)];
         }
+        5 if n > k => sheet.rows[k + g.below(n - k)] = sheet.rows[k + g.below(n - k)],
         _ => {}
     }
     sheet
@@ -220,7 +271,7 @@ pub fn any_case(g: &mut Random) -> Case {
     let sheet = any_sheet(g);
     let n = (sheet.n + g.below(2)).min(WIDTH);
     let limit = any_limit(n, g);
-    let call = match g.below(5) {
+    let call = match g.below(6) {
         0 => Call::Admit,
         1 => {
             let stuck = g.word(n) & g.word(n);
@@ -242,7 +293,8 @@ pub fn any_case(g: &mut Random) -> Case {
             radius: limit,
         },
         3 => Call::D0 { cap: limit },
-        _ => Call::D1 { cap: limit },
+        4 => Call::D1 { cap: limit },
+        _ => Call::Page(any_page(&sheet, g)),
     };
     Case { sheet, call }
 }

@@ -5,9 +5,11 @@ mod clock;
 mod fast;
 mod halves;
 mod inputs;
+mod pages;
 mod plain;
 mod programs;
 mod sheets;
+mod slots;
 mod store;
 
 use calls::Calls;
@@ -19,7 +21,7 @@ use std::process::ExitCode;
 const PROGRAMS: [&dyn Calls; 3] = [&store::Store, &plain::Plain, &fast::Fast];
 
 /// How many calls at random the answers are compared on, beside those that are timed.
-const COMPARED: usize = 5000;
+const COMPARED: usize = 6000;
 
 /// How many times the table is gone through.
 const SWEEPS: usize = 4;
@@ -33,8 +35,8 @@ const HEAD: &str = "\
 /// The first of the calls that the programs do not answer alike.
 fn first_difference(cases: &[Case]) -> Option<&Case> {
     cases.iter().find(|case| {
-        let told = case.told(PROGRAMS[0]);
-        PROGRAMS.iter().any(|by| case.told(*by) != told)
+        let answer = case.answer(PROGRAMS[0]);
+        PROGRAMS.iter().any(|by| case.answer(*by) != answer)
     })
 }
 
@@ -42,7 +44,7 @@ fn first_difference(cases: &[Case]) -> Option<&Case> {
 fn show_difference(case: &Case) {
     eprintln!("bench: answers differ: {case:?}");
     for by in PROGRAMS {
-        eprintln!("  {:6} {:?}", by.name(), case.told(by));
+        eprintln!("  {:6} {:?}", by.name(), case.answer(by));
     }
 }
 
@@ -64,11 +66,11 @@ fn show_ratio(x: f64) -> String {
 
 /// The least time of a pass over a row's calls, for each row and program. The whole table is gone through several times, so that
 /// a slow spell of the machine does not fall on one row alone.
-fn timed(rows: &[Row]) -> Vec<[f64; 3]> {
+fn timed(rows: &mut [Row]) -> Vec<[f64; 3]> {
     let mut best = vec![[f64::INFINITY; 3]; rows.len()];
     for _ in 0..SWEEPS {
-        for (least, row) in best.iter_mut().zip(rows) {
-            clock::improve(least, &row.cases, &PROGRAMS);
+        for (least, row) in best.iter_mut().zip(rows.iter_mut()) {
+            clock::improve(least, &mut row.cases, &PROGRAMS);
         }
     }
     best
@@ -99,7 +101,7 @@ fn main() -> ExitCode {
     let word = std::env::args_os().nth(1).unwrap_or_default();
     let word = word.to_string_lossy();
     let wanted = |row: &Row| format!("{} {}", row.sheets, row.call).contains(&*word);
-    let rows: Vec<Row> = inputs::rows().into_iter().filter(wanted).collect();
+    let mut rows: Vec<Row> = inputs::rows().into_iter().filter(wanted).collect();
     if rows.is_empty() {
         eprintln!("bench: no row has {word:?} in it");
         return ExitCode::from(2);
@@ -113,7 +115,7 @@ fn main() -> ExitCode {
         }
     }
     let calls = COMPARED + rows.iter().map(|row| row.cases.len()).sum::<usize>();
-    let best = timed(&rows);
+    let best = timed(&mut rows);
     let table: String = rows
         .iter()
         .zip(&best)

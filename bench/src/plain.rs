@@ -1,6 +1,7 @@
 //! The obvious program: a product one cell at a time, every listed word tried.
 use crate::calls::*;
 use crate::programs::*;
+use crate::slots::write_slots;
 
 /// The plain program. Its admission finds nothing that the jobs could use.
 pub struct Plain;
@@ -69,6 +70,13 @@ impl Program for Plain {
 
     fn d1(s: &Sheet, _: &(), cap: u32) -> Measured {
         measure(s, cap, &|z| is_codeword(s, z) && message_of(s, z) != 0)
+    }
+
+    /// The write as it stands, for each slot.
+    fn page(s: &Sheet, p: &mut Page) {
+        write_slots(s, p, |message, stuck, levels| {
+            <Self as Program>::write(s, message, stuck, levels)
+        });
     }
 }
 

@@ -2,9 +2,10 @@
 //! numbers are judged, and what is found is told in the store's form.
 use crate::calls::*;
 
-/// The largest radius and the largest cap.
+/// The largest radius, the largest cap, and the largest number of a page.
 const MOST_RADIUS: u32 = 4;
 const MOST_CAP: u32 = 8;
+const MOST_NUMBER: u32 = 9;
 
 /// A refusal by its number, with its row, cell or count where it has one.
 pub struct Refusal(pub u32, pub Option<u64>);
@@ -42,6 +43,8 @@ pub trait Program {
     fn read(s: &Sheet, found: &Self::Found, y: Word, radius: u32) -> Result<Heard, u64>;
     fn d0(s: &Sheet, cap: u32) -> Measured;
     fn d1(s: &Sheet, found: &Self::Found, cap: u32) -> Measured;
+    /// Every slot's word and note: `write_slots` with the program's own way to find a word.
+    fn page(s: &Sheet, p: &mut Page);
 }
 
 /// Refuses with the lowest cell of a word that should be 0.
@@ -125,6 +128,17 @@ impl<P: Program> Calls for P {
                 Some(d) => told(0, 0, &[d as u64, x.tried, ((d - 1) / 2) as u64]),
                 None => told(1, 0, &[x.tried, (cap / 2) as u64]),
             })
+        }))
+    }
+
+    fn page(&self, s: &Sheet, p: &mut Page) -> Told {
+        tells(P::admit(s).and_then(|_| {
+            let slots = p.words.len();
+            judge(16, (1..=MOST_NUMBER).contains(&p.number))?;
+            judge(13, slots <= MOST_SLOTS && p.records.len() <= MOST_RECORDS)?;
+            judge(25, p.messages.len() == slots && p.notes.len() == slots)?;
+            P::page(s, p);
+            Ok(told(0, 0, &[]))
         }))
     }
 }

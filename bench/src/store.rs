@@ -24,6 +24,22 @@ extern "C" {
     ) -> Told;
     fn namestore_d0(n: u32, k: u32, l: u32, rows: *const Word, len: usize, cap: u32) -> Told;
     fn namestore_d1(n: u32, k: u32, l: u32, rows: *const Word, len: usize, cap: u32) -> Told;
+    fn namestore_page_write_all(
+        n: u32,
+        k: u32,
+        l: u32,
+        rows: *const Word,
+        len: usize,
+        number: u32,
+        page: *mut Word,
+        page_len: usize,
+        records: *const StuckCell,
+        records_len: usize,
+        messages: *const Word,
+        messages_len: usize,
+        notes: *mut Word,
+        notes_len: usize,
+    ) -> Told;
 }
 
 /// A sheet as it is lent: its numbers, and its rows as a pointer and a length.
@@ -63,5 +79,27 @@ impl Calls for Store {
     fn d1(&self, s: &Sheet, cap: u32) -> Told {
         let (n, k, l, rows, len) = lent(s);
         unsafe { namestore_d1(n, k, l, rows, len, cap) }
+    }
+
+    fn page(&self, s: &Sheet, p: &mut Page) -> Told {
+        let (n, k, l, rows, len) = lent(s);
+        unsafe {
+            namestore_page_write_all(
+                n,
+                k,
+                l,
+                rows,
+                len,
+                p.number,
+                p.words.as_mut_ptr(),
+                p.words.len(),
+                p.records.as_ptr(),
+                p.records.len(),
+                p.messages.as_ptr(),
+                p.messages.len(),
+                p.notes.as_mut_ptr(),
+                p.notes.len(),
+            )
+        }
     }
 }

@@ -11,7 +11,7 @@ BENCH = os.path.join(ROOT, "bench", "run")
 ALIKE = """#include <stdint.h>
 typedef struct { uint32_t kind, number, count; uint64_t a, b, c; } Numbers;
 #define CALL(name) Numbers namestore_##name(void) { Numbers told = { 0 }; return told; }
-CALL(admit) CALL(write) CALL(read) CALL(d0) CALL(d1)
+CALL(admit) CALL(write) CALL(read) CALL(d0) CALL(d1) CALL(page_write_all)
 """
 
 # An rt that makes it in the place of the store's.

@@ -1,7 +1,7 @@
 // The records of a page held by value: those of a lent slice, copied once, and what a run of slots gathers of them in one pass. A write of the whole page goes by these,
 // so that it scans the records once a run and not once a slot.
 ghost use mathlib.Core.Path.{_≡_};
-ghost use Prim.Native.Nat.{ℕ, _+_, _≤_, _<_, _^_, min};
+ghost use Prim.Native.Nat.{ℕ, _+_, _≤_, _<_, min};
 ghost use lib.ListN.{length, getD, take};
 ghost use Rattle.paper.specs.Page.{mostRecords};
 ghost use Rattle.records.specs.Gather.{gatherOf, nothing};

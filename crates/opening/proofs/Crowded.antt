@@ -10,7 +10,7 @@ use lib.Dec.{leb}
 use lib.ListN.{length, take, length-take}
 use lib.Seq.{take-all}
 use Rattle.paper.specs.Page.{paged}
-use Rattle.paper.specs.Refusals.{Told, answer, refusal}
+use Rattle.paper.specs.Refusals.{Told, refusal}
 use Rattle.paper.specs.Sheet.{Sheet}
 use Rattle.rules.proofs.Stages.{Stage, passes, refuses}
 use Rattle.opening.proofs.Judging.{paged-stage}

@@ -17,7 +17,7 @@ use Rattle.paper.specs.Plate.{D1}
 use Rattle.paper.specs.Page.{mostSlots, mostNumber, recordsOf, firstBroken, stuckBy, levelsBy, fewSlots, fewRecords, paged, slotWrites, pageWrites, pageAfter, pageReads}
 use Rattle.paper.specs.WholePage.{oneEach, wholeWrites, note, pageThrough, notesThrough, wholePage, wholeNotes}
 use Rattle.paper.specs.Promised.{Fitting}
-use Rattle.paper.specs.Refusals.{Told, answer, more, refusal, leaves, unless, unlessAt}
+use Rattle.paper.specs.Refusals.{Told, answer, more, refusal, leaves, unless}
 use Rattle.paper.specs.Sheet.{Sheet, WordOf}
 use Rattle.paper.specs.Writing.{fits, wordOf, fitting, chosen}
 use Rattle.paper.specs.declared.StuckCell.{StuckCell}

@@ -1,8 +1,8 @@
 -- What a whole page that nothing stops is: a sound sheet, rules that pass to whatever comes next, few slots and records, and one message and one note a slot.
 -- For the whole-page write, once it is admitted. Assumes nothing.
-use mathlib.Core.Path.{_≡_, refl, sym, ap, _∙_}
-use mathlib.Core.Bool.{Bool, true, false, _&&_}
-use mathlib.Core.List.{List, []}
+use mathlib.Core.Path.{_≡_, refl, sym, _∙_}
+use mathlib.Core.Bool.{Bool, true, false}
+use mathlib.Core.List.{[]}
 use Prim.Native.Nat.{ℕ}
 use native.Mathlib.Omega.{arith}
 use Rattle.paper.specs.Page.{paged}

@@ -10,7 +10,6 @@ use borrow.Author.Tests.{eq-eqb, ne-eqb}
 use lib.Bits.{bitAnd}
 use lib.Dec.{eqb}
 use lib.Pow.{pow-pos}
-use Rattle.paper.specs.First.{at}
 use Rattle.paper.specs.Refusals.{answer}
 use Rattle.paper.specs.Sheet.{Sheet, G1, G0}
 use Rattle.paper.specs.Words.{sum, _⊕_}

@@ -1,11 +1,9 @@
 -- `write_held` meets its contract: what stops it is told and nothing is changed, and else page and notes are those of the single writes.
 use mathlib.Core.Path.{_≡_, refl, sym, ap, _∙_}
 use mathlib.Core.Bool.{_&&_, and-eq-true-iff}
-use Prim.Native.Nat.{ℕ, _≤_}
 use borrow.Author.Needs.{needs}
 use borrow.Author.Tests.{eqb-true}
 use native.Mathlib.Nat.{le-refl}
-use native.Mathlib.Omega.{arith}
 use lib.Dec.{eqb}
 use lib.ListN.{length, take}
 use lib.Seq.{length-take-le}
