@@ -177,6 +177,26 @@ def _():
     good(calls(asked(whole(rows + 1))), told("unknown"))
 
 
+@test("console: a whole page of the most slots, records and notes, one more of each, and messages that fill the line")
+def _():
+    counted = lambda count, token: str(count) + (" " + token) * count
+    told = lambda text: text.encode() + b"\n" + WORD
+    asked = lambda text: text.encode() + b"\n" + WRITE
+    line = lambda slots, records, messages, notes: "wpage %s 9 %s %s %s %d %s" % (KITCHEN, slots, records, messages, notes, MOST_WORD)
+    records = lambda count: counted(count, "%s %s 255" % (MOST, MOST))
+    page = counted(2048, MOST_WORD)
+    good(calls(asked(line(page, records(256), counted(2048, "5"), 2048))), told("done page " + counted(2048, "85") + " notes " + counted(2048, "0")))
+    good(calls(asked(line(counted(2048, "7"), records(256), counted(2048, MOST_WORD), 2048))), told("done page " + counted(2048, "7") + " notes " + counted(2048, "7")))
+    for number, slots, count, notes in ((25, 2048, 256, 4096), (25, 2048, 256, 2047), (13, 2049, 256, 2049), (13, 2048, 257, 2048), (13, 2049, 257, 4096)):
+        given = counted(slots, MOST_WORD)
+        good(calls(asked(line(given, records(count), counted(slots, "5"), notes))), told("refused %d page %s notes %s" % (number, given, counted(notes, MOST_WORD))))
+    good(calls(asked(line(page, "0", counted(2048, "5"), 4097))), told("unknown"))
+    whole = lambda messages: line("0", "0", counted(messages, "0"), 4096)
+    messages = 10000 + (ROOM - len(whole(10000))) // 2
+    good(calls(asked(whole(messages))), told("refused 25 page 0 notes " + counted(4096, MOST_WORD)))
+    good(calls(asked(whole(messages + 1))), told("unknown"))
+
+
 @test("console: page calls, answered and refused, and page lines that are no calls")
 def _():
     text = ""

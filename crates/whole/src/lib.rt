@@ -1,5 +1,6 @@
 // A whole page at once: page_write_all writes a message to each slot, and its results equal the single writes made in slot order. It asks nothing of what it is handed.
 // The sheet is checked once, and the records are copied once and gone through once a run of slots; a slot is then written as `page::page_write` writes it (`page::put`).
+// For N slots and R records that is one admission, R steps for each 128 slots, and for a slot a sum of rows, with an elimination only where that does not fit.
 ghost use mathlib.Core.Bool.{_&&_};
 ghost use mathlib.Core.List.{List, []};
 ghost use mathlib.Core.Path.{_≡_};
