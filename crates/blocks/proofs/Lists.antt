@@ -38,8 +38,8 @@ each_same m f g h = each_rows m f (each m g) (length-each m g) (λ i l. h i l �
 
 -- ---- rows under a function that leaves 0 as it is
 
-pub get_d_map : (f : ℕ → ℕ) → f 0 ≡ 0 → (rows : List ℕ) (i : ℕ) → get_or (map f rows) i 0 ≡ f (get_or rows i 0)
-get_d_map f e rows i = ap (get_or (map f rows) i) (sym e) ∙ ListN.get_d_map f rows i 0
+pub get_or-map : (f : ℕ → ℕ) → f 0 ≡ 0 → (rows : List ℕ) (i : ℕ) → get_or (map f rows) i 0 ≡ f (get_or rows i 0)
+get_or-map f e rows i = ap (get_or (map f rows) i) (sym e) ∙ ListN.get_or-map f rows i 0
 
 -- ---- the same rows
 

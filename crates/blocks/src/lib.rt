@@ -1,4 +1,6 @@
 // Rows of three blocks [a b c], k cells, l cells and those above: putting one together, and taking cells out of one. How many rows three tables have.
+#![tactic(auto)]
+
 ghost use Rattle.std.specs.Prelude.{◌≡◌, ◌*◌, ◌/◌, ◌%◌, ◌^◌, ◌<◌};
 ghost use Rattle.paper.specs.Tables.{joined, cells, tabled};
 ghost use Rattle.paper.specs.Words.{width};

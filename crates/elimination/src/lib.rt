@@ -1,6 +1,8 @@
 // Elimination by kept rows: the first row that is a sum of earlier rows, and the smallest d whose sum of rows equals a target.
 // Row j is reduced by the words kept of the rows before it, and what is left is kept, with the choice of rows that makes it;
 // the target is reduced by them all. For m rows that is at most m * (m + 1) / 2 steps, each a sum and a comparison: MATHEMATICS 1.
+#![tactic(auto)]
+
 ghost use Rattle.std.specs.Prelude.{◌≡◌, ◌≤◌, ◌^◌, eqb, length, get_or};
 ghost use Rattle.std.specs.Int.Bits.{bit_and};
 ghost use Rattle.paper.specs.First.{first};
@@ -17,21 +19,21 @@ use words::{ALL_CELLS, Place, cell_of};
 const ROOM: usize = WIDTH as usize;
 
 // The smallest choice of rows with a given sum, bit j for row j, or that there is none.
-#[derive(Drop)]
+#[derive(Clone, Copy)]
 pub enum Solution {
     Choice(Word),
     None,
 }
 
 // What is left of a word, and the choice of rows that was added on the way.
-#[derive(Drop)]
+#[derive(Clone, Copy)]
 struct Reduced {
     rest: Word,
     choice: Word,
 }
 
 // The kept words, one for each row, and beside each the choice of rows whose sum it is.
-#[derive(Drop)]
+#[derive(Clone, Copy)]
 struct Kept {
     words: [Word; ROOM],
     choices: [Word; ROOM],
@@ -46,7 +48,8 @@ fn reduce(words: &[Word; ROOM], choices: &[Word; ROOM], count: usize, x: Word) -
     let mut choice: Word = 0;
     for i in 0..count {
         let y = rest ^ words[i];
-        if y < rest {
+        let smaller = y < rest;
+        if smaller {
             rest = y;
             choice = choice ^ choices[i];
         }

@@ -1,4 +1,6 @@
 // The search of the list: the words over n cells by weight, then by value, until one passes the test of a read or of a measurement.
+#![tactic(auto)]
+
 ghost use Rattle.std.specs.Prelude.{◌≡◌, ◌+◌, ◌-◌, ◌^◌, ◌<◌, ◌≤◌, eqb, length};
 ghost use Rattle.paper.specs.Words.{width, products};
 ghost use Rattle.paper.specs.Listing.{listed, weights, search};
@@ -8,7 +10,7 @@ use paper::{Count, Word};
 use words::{cell_of, product_of};
 
 // What a search finds: a word and "the place of z in the list, counted from 1"; or that all of the list was tried.
-#[derive(Drop)]
+#[derive(Clone, Copy)]
 pub enum Found {
     At { z: Word, tried: Count },
     Nothing { tried: Count },

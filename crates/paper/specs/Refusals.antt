@@ -4,19 +4,12 @@ use Rattle.paper.specs.First.{First, nowhere, at}
 use Rattle.paper.specs.declared.Refusal.{Refusal}
 use Rattle.paper.specs.declared.Refusal.TheVariants.{Shape, Stray, OffCode, OffMessage, DependentG0, DependentH, Message, Stuck, NoWord, ReadWord, Limit, NoCodeword, Crowded, NoSlot, Record, Plate, OtherShape, Lengths}
 use Rattle.paper.specs.declared.Admission.{Admission}
-use Rattle.paper.specs.declared.Admission.TheVariants as Admission
 use Rattle.paper.specs.declared.Written.{Written}
-use Rattle.paper.specs.declared.Written.TheVariants as Written
 use Rattle.paper.specs.declared.Reading.{Reading}
-use Rattle.paper.specs.declared.Reading.TheVariants as Reading
 use Rattle.paper.specs.declared.MeasuredD0.{MeasuredD0}
-use Rattle.paper.specs.declared.MeasuredD0.TheVariants as MeasuredD0
 use Rattle.paper.specs.declared.MeasuredD1.{MeasuredD1}
-use Rattle.paper.specs.declared.MeasuredD1.TheVariants as MeasuredD1
 use Rattle.paper.specs.declared.Opening.{Opening}
-use Rattle.paper.specs.declared.Opening.TheVariants as Opening
 use Rattle.paper.specs.declared.Outcome.{Outcome}
-use Rattle.paper.specs.declared.Outcome.TheVariants as Outcome
 
 -- what a call tells: its values; for a measurement also "more than the cap" and its values; or a refusal's number and what is given with it
 pub data Told : Type 0 where

@@ -1,5 +1,6 @@
 // The answers of the store, as values, the types of their numbers, and the limits. What each answer tells, in the numbers and values
 // of document 01, stands in specs/Refusals.antt.
+#![tactic(auto)]
 
 // A word of cells: a row, a message, a word read or written, stuck cells and their levels, a choice of rows.
 pub type Word = u64;
@@ -28,7 +29,7 @@ pub const MOST_NUMBER: u32 = 9;
 // A record of the list in which a page's stuck cells arrive: "each naming slot, cell and level". A list of them
 // passes to and from C as it lies.
 #[repr(C)]
-#[derive(Drop)]
+#[derive(Clone, Copy)]
 pub struct StuckCell {
     pub slot: u32,
     pub cell: u32,
@@ -36,7 +37,7 @@ pub struct StuckCell {
 }
 
 // Why a call is refused: "the refusal carries its reason and the reason carries its row".
-#[derive(Drop)]
+#[derive(Clone, Copy)]
 pub enum Refusal {
     Shape,
     Stray { row: u32 },
@@ -59,21 +60,21 @@ pub enum Refusal {
 }
 
 // What admitting a sheet answers.
-#[derive(Drop)]
+#[derive(Clone, Copy)]
 pub enum Admission {
     Admitted,
     Refused(Refusal),
 }
 
 // What writing answers: the fitting word with the smallest d, and that d.
-#[derive(Drop)]
+#[derive(Clone, Copy)]
 pub enum Written {
     Word { word: Word, d: Word },
     Refused(Refusal),
 }
 
 // What reading answers: the message of y + z, z itself, and the number tried.
-#[derive(Drop)]
+#[derive(Clone, Copy)]
 pub enum Reading {
     Message {
         message: Word,
@@ -84,7 +85,7 @@ pub enum Reading {
 }
 
 // What measuring d0 answers: the distance or "more than the cap", and the number tried.
-#[derive(Drop)]
+#[derive(Clone, Copy)]
 pub enum MeasuredD0 {
     Distance { d: u32, tried: Count },
     More { tried: Count },
@@ -92,7 +93,7 @@ pub enum MeasuredD0 {
 }
 
 // What measuring d1 answers: the same, and the radius to print on the plate.
-#[derive(Drop)]
+#[derive(Clone, Copy)]
 pub enum MeasuredD1 {
     Distance { d: u32, tried: Count, radius: u32 },
     More { tried: Count, radius: u32 },
@@ -100,14 +101,14 @@ pub enum MeasuredD1 {
 }
 
 // What opening a page answers: its plate number.
-#[derive(Drop)]
+#[derive(Clone, Copy)]
 pub enum Opening {
     Number { number: u32 },
     Refused(Refusal),
 }
 
 // What a call answers whose answer stands in the rooms that it was lent: that it is done.
-#[derive(Drop)]
+#[derive(Clone, Copy)]
 pub enum Outcome {
     Done,
     Refused(Refusal),

@@ -1,4 +1,6 @@
 // The stuck cells of one slot, from the list of records that a page comes with: one thin function scans the lent slice, and gathers the slot's mask and levels.
+#![tactic(auto)]
+
 ghost use Rattle.std.specs.Prelude.{◌≡◌, ◌+◌, ◌<◌, ◌^◌};
 ghost use Rattle.records.specs.Gather.{gather_of, spoils, step_of};
 
@@ -7,7 +9,7 @@ use words::cell_of;
 
 // What one slot's records gather to: the stuck cells and their levels, and how many records there are; or, where one breaks the rule,
 // the place of the first that does, and no cells.
-#[derive(Drop)]
+#[derive(Clone, Copy)]
 pub struct Gathered {
     pub broken: bool,
     pub place: usize,
@@ -59,7 +61,7 @@ pub fn step(acc: Gathered, r: StuckCell, slot: u32, n: u32) -> Gathered
     }
 }
 
-// What the records of one slot gather to, over n cells. It is walked by hand, for its `&[StuckCell]`: no branch, one call a record.
+// What the records of one slot gather to, over n cells: one step a record, and no branch.
 pub fn gather(records: &[StuckCell], slot: u32, n: u32) -> Gathered
     ensures { result ≡ gather_of slot n records.now }
 {

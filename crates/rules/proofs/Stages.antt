@@ -8,7 +8,6 @@ use native.Mathlib.Omega.{arith}
 use Rattle.paper.specs.First.{First, nowhere, at}
 use Rattle.paper.specs.Refusals.{Told, answer, refusal, refused, admission, unless, unless_at}
 use Rattle.paper.specs.declared.Admission.{Admission}
-use Rattle.paper.specs.declared.Admission.TheVariants as Admission
 use Rattle.paper.specs.declared.Refusal.{Refusal}
 
 -- rules that refuse whatever comes next, or pass to it

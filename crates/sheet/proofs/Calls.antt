@@ -4,7 +4,6 @@ use mathlib.Core.Path.{◌≡◌, sym, ap, ◌∙◌}
 use Rattle.paper.specs.Refusals.{Told, refused, admission}
 use Rattle.paper.specs.Sheet.{Sheet, judged, admits}
 use Rattle.paper.specs.declared.Admission.{Admission}
-use Rattle.paper.specs.declared.Admission.TheVariants as Admission
 use Rattle.paper.specs.declared.Refusal.{Refusal}
 use Rattle.sheet.specs.Sound.{Sound}
 use Rattle.rules.proofs.Stages.{told-refused, told-next}

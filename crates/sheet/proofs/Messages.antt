@@ -9,7 +9,7 @@ use native.Mathlib.Omega.{arith}
 use lib.ListN.{length, get_or, length-append}
 use lib.Pow.{pow_pos, shr_lt, pow-lt}
 use Rattle.paper.specs.Words.{cell, product, products, sum, ◌⊕◌}
-use Rattle.paper.specs.Sheet.{Sheet, r, G1, G0, H, M, WordOf}
+use Rattle.paper.specs.Sheet.{Sheet, G1, G0, H, M, WordOf}
 use Rattle.paper.specs.Writing.{word_of}
 use Rattle.words.proofs.Cells.{ext, cell-unit-swap}
 use Rattle.words.proofs.Sums.{⊕-cancel, ⊕-self, ⊕-zero-l, ⊕-zero-r, ⊕-lt}

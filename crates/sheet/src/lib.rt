@@ -1,4 +1,6 @@
 // Admitting a sheet: refusals 1 to 6 of document 01, in the order of its table.
+#![tactic(auto)]
+
 ghost use Rattle.std.specs.Prelude.{◌≡◌, [], ◌+◌, ◌*◌, ◌^◌, ◌≤◌, leb, length, get_or, take, drop};
 ghost use Rattle.paper.specs.First.{first};
 ghost use Rattle.paper.specs.Refusals.{answer, admission};

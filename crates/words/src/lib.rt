@@ -1,5 +1,7 @@
 // Words of cells: the product of two words, the products with the rows of a part of a sheet, sums of rows,
 // the lowest cell, and the cells at n or above.
+#![tactic(auto)]
+
 ghost use Rattle.std.specs.Prelude.{◌≡◌, ◌%◌, ◌^◌, ◌≤◌, ◌<◌, min, eqb, ltb, length};
 ghost use Rattle.paper.specs.First.{first};
 ghost use Rattle.paper.specs.Words.{width, cell, weight, product, products, sum, ◌⊕◌};
@@ -11,7 +13,7 @@ use paper::{WIDTH, Word};
 pub const ALL_CELLS: Word = u64::MAX;
 
 // The first row or cell with a property, or that there is none.
-#[derive(Drop)]
+#[derive(Clone, Copy)]
 pub enum Place {
     At(u32),
     Nowhere,
