@@ -12,7 +12,7 @@ use Rattle.words.proofs.Cells.{ext}
 use Rattle.words.proofs.Sums.{cell-⊕, ⊕-lt}
 use Rattle.words.proofs.Products.{cell-products, products_lt}
 use Rattle.words.proofs.Rows.{sum-zero}
-use Rattle.blocks.proofs.Lists.{length-each, get_or-each, each_same, get_d_map}
+use Rattle.blocks.proofs.Lists.{length-each, get_or-each, each_same, get_or-map}
 use Rattle.blocks.proofs.Columns.{column-products, column-lt, cell-column, product-column}
 use Rattle.building.specs.Rows.{row_g1, row_g0, mixed, row_h, row_m, rows_of}
 
@@ -76,7 +76,7 @@ module _ (P R Q : List ℕ) where
   -- row j of RP is the sum of the rows of P that row j of R picks
   pub row-mixed : (j : ℕ) → j < length Q → get_or (mixed P R Q) j 0 ≡ get_or Q j 0 ⊕ sum P (get_or R j 0)
   row-mixed j h =
-      get_or-each (length Q) (λ i. get_or Q i 0 ⊕ get_or (times R P) i 0) j h ∙ ap (λ (x : ℕ). get_or Q j 0 ⊕ x) (get_d_map (sum P) (sum-zero P) R j)
+      get_or-each (length Q) (λ i. get_or Q i 0 ⊕ get_or (times R P) i 0) j h ∙ ap (λ (x : ℕ). get_or Q j 0 ⊕ x) (get_or-map (sum P) (sum-zero P) R j)
 
   -- its column c, by products alone
   pub column-mixed : (c : ℕ) → length Q ≡ length R → column (mixed P R Q) c ≡ products Q (2 ^ c) ⊕ products R (products P (2 ^ c))
@@ -97,8 +97,8 @@ module _ (P R Q : List ℕ) where
 
 -- ---- the rows of the sheet, by their numbers
 
-get_d_past : (xs ys : List ℕ) (m i : ℕ) → length xs ≡ m → m ≤ i → get_or (xs ++ ys) i 0 ≡ get_or ys (i - m) 0
-get_d_past xs ys m i e h =
+get_or-past : (xs ys : List ℕ) (m i : ℕ) → length xs ≡ m → m ≤ i → get_or (xs ++ ys) i 0 ≡ get_or ys (i - m) 0
+get_or-past xs ys m i e h =
     let q : i ≡ length xs + (i - m) = omega arith in ap (λ (j : ℕ). get_or (xs ++ ys) j 0) q ∙ get_or-append-add xs ys (i - m) 0
 
 get_or-in : (m : ℕ) (row : ℕ → ℕ) (ys : List ℕ) (i : ℕ) → i < m → get_or (each m row ++ ys) i 0 ≡ row i
@@ -119,12 +119,12 @@ module _ (n k l : ℕ) (P R Q : List ℕ) (count : length R ≡ l) (i : ℕ) whe
   at-G1 h = by_rows ∙ get_or-in k (row_g1 k l P) from-G0 i h
 
   past-G1 : k ≤ i → get_or (built n k l P R Q) i 0 ≡ get_or from-G0 (i - k) 0
-  past-G1 h = by_rows ∙ get_d_past (each k (row_g1 k l P)) from-G0 k i (length-each k (row_g1 k l P)) h
+  past-G1 h = by_rows ∙ get_or-past (each k (row_g1 k l P)) from-G0 k i (length-each k (row_g1 k l P)) h
 
   past-G0 : k + l ≤ i → get_or (built n k l P R Q) i 0 ≡ get_or from-H (i - (k + l)) 0
   past-G0 h =
       let e : i - k - l ≡ i - (k + l) = omega arith in
-      past-G1 (omega arith) ∙ get_d_past (each l (row_g0 k l R Q)) from-H l (i - k) (length-each l (row_g0 k l R Q)) (omega arith)
+      past-G1 (omega arith) ∙ get_or-past (each l (row_g0 k l R Q)) from-H l (i - k) (length-each l (row_g0 k l R Q)) (omega arith)
       ∙ ap (λ (j : ℕ). get_or from-H j 0) e
 
   pub at-G0 : k ≤ i → i < k + l → get_or (built n k l P R Q) i 0 ≡ row_g0 k l R Q (i - k)
@@ -137,5 +137,5 @@ module _ (n k l : ℕ) (P R Q : List ℕ) (count : length R ≡ l) (i : ℕ) whe
   at-M h m u =
       let e : i - (k + l) - (n - (k + l)) ≡ i - n = omega arith in
       past-G0 (omega arith)
-      ∙ get_d_past (each (n - (k + l)) (row_h k l P R Q)) (each k (row_m k l R)) (n - (k + l)) (i - (k + l)) (length-each (n - (k + l)) (row_h k l P R Q)) (omega arith)
+      ∙ get_or-past (each (n - (k + l)) (row_h k l P R Q)) (each k (row_m k l R)) (n - (k + l)) (i - (k + l)) (length-each (n - (k + l)) (row_h k l P R Q)) (omega arith)
       ∙ ap (λ (j : ℕ). get_or (each k (row_m k l R)) j 0) e ∙ get_or-each k (row_m k l R) (i - n) (omega arith)

@@ -1,5 +1,7 @@
 // Request 4: the whole sheet of three small tables. P, R and Q are lent as their rows, bit c of a row being column c; the sheet is put into a lent room.
 // The call: build. It judges the sizes (1) and the bits (2), and then puts row after row, each by its formula. Cost: n + k rows of at most 2n products.
+#![tactic(auto)]
+
 ghost use Rattle.std.specs.Prelude.{◌≡◌, ◌+◌, ◌^◌, ◌≤◌, ◌<◌, length, get_or};
 ghost use Rattle.paper.specs.Promised.{Fits};
 ghost use Rattle.paper.specs.Refusals.{outcome, leaves};

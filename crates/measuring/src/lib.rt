@@ -1,5 +1,7 @@
 // Measuring the plate of an admitted sheet: the cap is judged, and the list is searched for the first word that has the distance's property.
 // The sheet is not checked here: the caller has, so that one which does many jobs on a sheet checks it once.
+#![tactic(auto)]
+
 ghost use Rattle.std.specs.Prelude.{◌≡◌, ◌≤◌};
 ghost use Rattle.paper.specs.Refusals.{measured_d0, measured_d1};
 ghost use Rattle.paper.specs.Plate.{most_cap, capped, search_d0, search_d1, measures_admitted_d0, measures_admitted_d1};

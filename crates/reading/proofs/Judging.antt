@@ -10,7 +10,6 @@ use Rattle.paper.specs.Reading.{most_radius, stray_cell}
 use Rattle.paper.specs.Refusals.{answer, admission, unless}
 use Rattle.paper.specs.Words.{width}
 use Rattle.paper.specs.declared.Admission.{Admission}
-use Rattle.paper.specs.declared.Admission.TheVariants as Admission
 use Rattle.rules.proofs.Rules.{past, past-at}
 use Rattle.rules.proofs.Stages.{Stage, unless-stage, unless_at-stage, then}
 use Rattle.reading.specs.Steps.{readable}

@@ -1,6 +1,8 @@
 // Reading on an admitted sheet: the word and the radius are judged in the order of the table "When the box says no", for a slot of a page also against the
 // page's plate number, and the nearest codeword is searched for.
 // The sheet is not checked here: the caller has, so that one which does many jobs on a sheet checks it once.
+#![tactic(auto)]
+
 ghost use Rattle.std.specs.Prelude.{[], ◌≡◌, ◌≤◌};
 ghost use Rattle.paper.specs.First.{first};
 ghost use Rattle.paper.specs.Words.{width};

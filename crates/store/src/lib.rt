@@ -1,5 +1,7 @@
 // The calls of the store: admit, write, read, measure_d0, measure_d1. None asks anything of what it is handed, none writes to what it is lent.
 // Each checks the sheet, judges its arguments in the order of the table "When the box says no", and then does its work.
+#![tactic(auto)]
+
 ghost use Rattle.std.specs.Prelude.{◌≡◌};
 ghost use Rattle.paper.specs.Refusals.{admission, written, reading, measured_d0, measured_d1};
 ghost use Rattle.paper.specs.Sheet.{sheet, admits};

@@ -14,7 +14,7 @@ use Rattle.paper.specs.Sheet.{Sheet, r, G1, G0}
 use Rattle.paper.specs.Tables.{cells, built_g1, built_g0, table_p, table_r, table_q, alike, systematic}
 use Rattle.sheet.specs.Sound.{Sound}
 use Rattle.blocks.proofs.Blocks.{joined-first, joined-last}
-use Rattle.blocks.proofs.Lists.{get_d_map, alike_same, alike-rows}
+use Rattle.blocks.proofs.Lists.{get_or-map, alike_same, alike-rows}
 use Rattle.building.specs.Rows.{row_g1, row_g0}
 use Rattle.building.proofs.Rows.{length-G1, row-of-G1, length-G0, row-of-G0}
 
@@ -26,7 +26,7 @@ cells-zero from count = ap (λ (x : ℕ). x % 2 ^ count) (zero-div (2 ^ from)) �
 
 -- a table, row by row
 pub table_at : (from count : ℕ) (rows : List ℕ) (i : ℕ) → get_or (map (cells from count) rows) i 0 ≡ cells from count (get_or rows i 0)
-table_at from count = get_d_map (cells from count) (cells-zero from count)
+table_at from count = get_or-map (cells from count) (cells-zero from count)
 
 -- rows whose cells are those of a table
 cut-rows : (from count m : ℕ) (rows table : List ℕ) → length rows ≡ m → length table ≡ m

@@ -1,5 +1,7 @@
 // Request 4: the tables of a sheet. The call: tables. It judges the rooms (1) and the sheet (1 to 6), looks whether G1 is [I 0 P] and G0 is [R I Q] (24),
 // and puts what stands in the tables' places into the lent rooms. Cost: that of admission, and one look at each row of G1 and G0.
+#![tactic(auto)]
+
 ghost use Rattle.std.specs.Prelude.{map, ◌≡◌, ◌+◌, ◌≤◌, length};
 ghost use Rattle.paper.specs.Refusals.{outcome, leaves};
 ghost use Rattle.paper.specs.Sheet.{sheet};

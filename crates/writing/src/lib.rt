@@ -1,5 +1,7 @@
 // Writing on an admitted sheet: the message and the stuck cells are judged in the order of the table "When the box says no", and the word is chosen.
 // The sheet is not checked here: the caller has, so that one which does many jobs on a sheet checks it once.
+#![tactic(auto)]
+
 ghost use Rattle.std.specs.Prelude.{◌≡◌, ◌≤◌};
 ghost use Rattle.paper.specs.First.{first};
 ghost use Rattle.paper.specs.Words.{width};
