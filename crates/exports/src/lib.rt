@@ -1,6 +1,8 @@
-// The calls for a program in C or Rust, which links the archive of `rt staticlib exports`: a slice passes as a pointer and a length, and
+// The calls for a program in C or Rust, which links the archive that `rt lib` builds here: a slice passes as a pointer and a length, and
 // an answer as the numbers that it tells. None asks anything of what it is handed, and none but `namestore_page_write_all`, which writes to
 // page and notes, writes to what it is lent.
+#![tactic(auto)]
+
 ghost use Rattle.std.specs.Prelude.{◌≡◌};
 ghost use Rattle.paper.specs.Sheet.{sheet, admits};
 ghost use Rattle.paper.specs.Writing.{writes};
@@ -67,7 +69,7 @@ pub extern "C" fn namestore_d1(n: u32, k: u32, l: u32, rows: &[Word], cap: u32) 
     told::of_d1(store::measure_d1(n, k, l, rows, cap))
 }
 
-// Writes a message to each slot of a page and notes each slot: `whole::page_write_all`. It is walked by hand, for its `&[StuckCell]`: no branch, two calls.
+// Writes a message to each slot of a page and notes each slot: `whole::page_write_all`.
 #[unsafe(no_mangle)]
 pub extern "C" fn namestore_page_write_all(
     n: u32,

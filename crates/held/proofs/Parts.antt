@@ -1,10 +1,10 @@
 -- An array of records that lies in a local: it is taken apart into its first i elements and the rest, and is whole again, so that the first ones can be lent.
--- For the walks of functions that hold records by value: `hold`, and `page_write` of `lent`. The laws assume what every law of the machine's memory does, `Logic`, and nothing else.
+-- For a proof by hand of a function that holds records by value. The check follows such code itself today, so no proof here cites them. The laws assume what every law of the machine's memory does, `Logic`, and nothing else.
 use mathlib.Core.Path.{refl, sym, subst}
 use mathlib.Core.List.{List, [], ◌∷◌, ◌++◌}
 use Prim.Native.Nat.{ℕ}
 use seplogic.Ra.Ura.{Ura}
-use seplogic.Ra.TreeShare.{full_share}
+use base.Fraction.{full_share}
 use lib.ListN.{length, take, drop, take-append-drop}
 use mir.Syntax.{Ty, ty_array}
 use mir.Val.{Val}
@@ -76,7 +76,7 @@ module _ {M : Type 1} {𝓤 : Ura M} (𝓛 : Logic 𝓤) (ys : List StuckCell) (
     laid is =
         qed 𝓛 (‵ (fat full_share (arr N) b 0 (av ys)) ∷ []) ∵ use1 𝓛 (‵ (cell_at full_share (Records N).mir (av ys ∷ []) b 0)) (𝓛.laws.at_raw full_share (arr N) b 0 (av ys)) $
         owned ! (Records N) (Is (Records N)) (Array-Makes 𝓛 S.the_row (LL.makes S.the_type S'.the_plain 𝓛) N) ys _ is $ move ! (1 ∷ 0 ∷ []) $ fjoin ! $
-        fpack ! (List Val) (λ us. fsep (cell_at full_share (Records N).mir us b 0) ((Records N).own ys us)) (av ys ∷ []) $
+        fpack ! (List Val) (λ us. fsep (cell_at full_share (Records N).mir us b 0) ((Records N).own_val ys us)) (av ys ∷ []) $
         use1 𝓛 (‵ ((arr_parts (shares S.the_row) N).part full_share ys b 0)) (Array-apart 𝓛 S.the_row full_share tt N ys b 0) $ done !
 
     -- and the array again, with its relation

@@ -1,5 +1,7 @@
 // The records of a page held by value: those of a lent slice, copied once, and what a run of slots gathers of them in one pass. A write of the whole page goes by these,
 // so that it scans the records once a run and not once a slot.
+#![tactic(auto)]
+
 ghost use Rattle.std.specs.Prelude.{◌≡◌, ℕ, ◌+◌, ◌≤◌, ◌<◌, min, length, get_or, take};
 ghost use Rattle.paper.specs.Page.{most_records};
 ghost use Rattle.records.specs.Gather.{gather_of, nothing};
@@ -25,7 +27,7 @@ pub fn count_held(count: usize) -> usize
     }
 }
 
-// The first `count` records of a lent slice. It is walked by hand, for its `&[StuckCell]`: no branch, no call.
+// The first `count` records of a lent slice.
 pub fn hold(records: &[StuckCell], count: usize) -> [StuckCell; ROOM_RECORDS]
     requires { (count ≤ length records.now) × (count ≤ most_records + 1) }
     ensures { take count result ≡ take count records.now }

@@ -1,4 +1,6 @@
-// The records that an array holds, lent to a page's write: whoever has them by value needs no walk.
+// The records that an array holds, lent to a page's write, for whoever has them by value.
+#![tactic(auto)]
+
 ghost use Rattle.std.specs.Prelude.{◌≡◌, ◌+◌, ◌≤◌, take};
 ghost use Rattle.paper.specs.Page.{most_records, page_writes, page_after_write};
 ghost use Rattle.paper.specs.Refusals.{written};
@@ -7,7 +9,7 @@ ghost use Rattle.paper.specs.Sheet.{sheet};
 use held::ROOM_RECORDS;
 use paper::{StuckCell, Word, Written};
 
-// `page::page_write` with the first `count` records of an array. It is walked by hand, for its `&[StuckCell]`: no branch, one call.
+// `page::page_write` with the first `count` records of an array.
 pub fn page_write(
     n: u32,
     k: u32,

@@ -8,7 +8,6 @@ use Rattle.paper.specs.Page.{numbered, paged}
 use Rattle.paper.specs.Refusals.{Told, answer, admission, unless}
 use Rattle.paper.specs.Sheet.{Sheet, judged}
 use Rattle.paper.specs.declared.Admission.{Admission}
-use Rattle.paper.specs.declared.Admission.TheVariants as Admission
 use Rattle.rules.proofs.Stages.{Stage, unless-stage, then}
 use Rattle.sheet.specs.Sound.{Sound}
 use Rattle.sheet.proofs.Verdicts.{judged-stage, past-judged, on-admitted, sound}

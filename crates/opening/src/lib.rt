@@ -1,5 +1,7 @@
 // Opening a page, which gives its plate number, and what every call on a page does first: the sheet is checked, then the number, then how many slots and records there are.
 // None of them asks anything of what it is handed.
+#![tactic(auto)]
+
 ghost use Rattle.std.specs.Prelude.{◌&&◌, [], ◌≡◌, leb};
 ghost use Rattle.paper.specs.Page.{most_slots, most_records, opens, numbered, paged};
 ghost use Rattle.paper.specs.Refusals.{answer, admission, opening};

@@ -1,4 +1,4 @@
--- The machine's type of a word, `Word` of `paper`: for the walks of functions that lend words, here and in `lent`. Assumes nothing.
+-- The machine's type of a word, `Word` of `paper`: for a proof by hand of a function that lends words. The check follows such code itself today, so no proof here cites it. Assumes nothing.
 use mir.Syntax.{Width, w64}
 use denote.RattleType.{RattleType}
 use denote.Plain.{UInt}

@@ -1,5 +1,5 @@
 -- What the records of one slot gather to never breaks rule 8, so a slot is written by 15, 7 and 9 alone: the code's steps tell what the definition tells.
--- And what is told of a write says what it leaves. For the walk of `page_write`, and for what it calls. Assumes nothing.
+-- For `page_write`. And what is told of a write says what it leaves, for a proof by hand. Assumes nothing.
 use mathlib.Core.Path.{◌≡◌, sym, ap, ◌∙◌}
 use mathlib.Core.Bool.{◌&&◌}
 use mathlib.Core.List.{List}

@@ -1,5 +1,7 @@
 // A page of names under one sheet: page_write puts a word in one slot, page_read takes one slot. Neither asks anything of what it is handed.
 // Each checks the sheet once, judges the page and its arguments in the order of change requests 1 and 6, and then does the job on an admitted sheet.
+#![tactic(auto)]
+
 ghost use Rattle.std.specs.Prelude.{◌≡◌, ◌<◌, length};
 ghost use Rattle.paper.specs.Page.{page_writes, page_after_write, page_reads};
 ghost use Rattle.paper.specs.Refusals.{written, reading};
@@ -65,7 +67,6 @@ fn write_gathered(
 }
 
 // Writes a message to one slot of a page, around the stuck cells that the records name: refusals 1 to 6, 16, 13, 14, 15, then 7 and 9.
-// It is walked by hand, for its `&[StuckCell]`: no branch, two calls.
 pub fn page_write(
     n: u32,
     k: u32,

@@ -10,19 +10,12 @@ use Rattle.paper.specs.Writing.{writes}
 use Rattle.paper.specs.Reading.{reads}
 use Rattle.paper.specs.Plate.{measures_d0, measures_d1}
 use Rattle.paper.specs.declared.Admission.{Admission}
-use Rattle.paper.specs.declared.Admission.TheVariants as Admission
 use Rattle.paper.specs.declared.Written.{Written}
-use Rattle.paper.specs.declared.Written.TheVariants as Written
 use Rattle.paper.specs.declared.Reading.{Reading}
-use Rattle.paper.specs.declared.Reading.TheVariants as Reading
 use Rattle.paper.specs.declared.MeasuredD0.{MeasuredD0}
-use Rattle.paper.specs.declared.MeasuredD0.TheVariants as MeasuredD0
 use Rattle.paper.specs.declared.MeasuredD1.{MeasuredD1}
-use Rattle.paper.specs.declared.MeasuredD1.TheVariants as MeasuredD1
 use Rattle.paper.specs.declared.Opening.{Opening}
-use Rattle.paper.specs.declared.Opening.TheVariants as Opening
 use Rattle.paper.specs.declared.Outcome.{Outcome}
-use Rattle.paper.specs.declared.Outcome.TheVariants as Outcome
 use Rattle.rules.proofs.Reasons.{reason_of, told_back}
 
 -- a result can be told back from what is told of it

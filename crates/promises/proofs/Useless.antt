@@ -20,13 +20,9 @@ use Rattle.paper.specs.Plate.{Masked, Hidden, search_d0, search_d1, D0, D1, prin
 use Rattle.paper.specs.Promised.{Stuck, Placed}
 use Rattle.paper.specs.declared.Refusal.{Refusal}
 use Rattle.paper.specs.declared.Written.{Written}
-use Rattle.paper.specs.declared.Written.TheVariants as Written
 use Rattle.paper.specs.declared.Reading.{Reading}
-use Rattle.paper.specs.declared.Reading.TheVariants as Reading
 use Rattle.paper.specs.declared.MeasuredD0.{MeasuredD0}
-use Rattle.paper.specs.declared.MeasuredD0.TheVariants as MeasuredD0
 use Rattle.paper.specs.declared.MeasuredD1.{MeasuredD1}
-use Rattle.paper.specs.declared.MeasuredD1.TheVariants as MeasuredD1
 use Rattle.words.proofs.Sums.{ones-zero}
 use Rattle.sheet.proofs.Verdicts.{sound}
 use Rattle.promises.proofs.Pinned.{write-pinned, read-pinned}

@@ -1,6 +1,8 @@
 // A whole page at once: page_write_all writes a message to each slot, and its results equal the single writes made in slot order. It asks nothing of what it is handed.
 // The sheet is checked once, and the records are copied once and gone through once a run of slots; a slot is then written as `page::page_write` writes it (`page::put`).
 // For N slots and R records that is one admission, R steps for each 128 slots, and for a slot a sum of rows, with an elimination only where that does not fit.
+#![tactic(auto)]
+
 ghost use Rattle.std.specs.Prelude.{◌&&◌, List, [], ◌≡◌, ℕ, ◌+◌, ◌≤◌, ◌<◌, min, eqb, leb, length, take};
 ghost use Rattle.paper.specs.Page.{most_slots, most_records, paged};
 ghost use Rattle.paper.specs.WholePage.{whole_writes, whole_page, whole_notes, note};
@@ -153,7 +155,7 @@ pub fn write_held(
 }
 
 // Writes a message to each slot of a page, around the stuck cells that the records name: refusals 1 to 6, 16, 13 and 25 stop it before any change; a slot's 15, 7 or 9 is noted by
-// its number, and a written slot's note is 0. It is walked by hand, for its `&[StuckCell]`: no branch, three calls.
+// its number, and a written slot's note is 0.
 pub fn page_write_all(
     n: u32,
     k: u32,
