@@ -1,4 +1,6 @@
 // The text of an answer: what a call told, behind labels, and lists behind their names, put into a room. Knows no verb.
+#![tactic(auto)]
+
 ghost use Rattle.std.specs.Prelude.{◌+◌, ◌*◌, ◌≤◌, length};
 ghost use Rattle.text.specs.Puts.{Put};
 ghost use Rattle.told.specs.Telling.{tells};

@@ -71,6 +71,9 @@ module _ {A : Type 0} (other : A) (known : ℕ → List ℕ → List (List ℕ) 
       unfolding comes
       comes-spelled h = rw (is_silent-of line some ∙ ne_eqb (get_or line 0 0) 35 n, le-leb (length line) room_line h)
 
+-- what `parse_trimmed` asks of a line, in turn
+pub ruleset line_cases = (comes-empty, comes-comment, comes-long, comes-spelled)
+
 -- ---- a carriage return at the end
 
 -- what a line asks for is asked of the line without its carriage return
@@ -103,6 +106,14 @@ trimmed-same (b ∷ c ∷ bs) (suc n) h e = ap (λ (l : List ℕ). b ∷ l) (tri
 pub trimmed-empty : (line : List ℕ) → length line ≡ 0 → line ≡ trimmed line
 trimmed-empty [] h = refl
 trimmed-empty (b ∷ bs) h = absurd (omega arith)
+
+-- the same of the last byte, wherever it stands: what `trimmed_end` takes off, and what it leaves
+module _ (line : List ℕ) where
+  pub trimmed_off : 0 < length line → get_or line (length line - 1) 0 ≡ 13 → take (length line - 1) line ≡ trimmed line
+  trimmed_off h e = trimmed-return line (length line - 1) (omega arith) e
+
+  pub trimmed_kept : 0 < length line → (get_or line (length line - 1) 0 ≡ 13 → ⊥) → take (length line) line ≡ trimmed line
+  trimmed_kept h n = take_all (length line) line (omega arith) ∙ trimmed-same line (length line - 1) (omega arith) n
 
 -- no more than a byte is taken off
 trimmed-length : (line : List ℕ) → length line ≤ length (trimmed line) + 1

@@ -14,7 +14,6 @@ use lib.ListN.{length, get_or, take, drop, set, length-append, length-drop, drop
 use lib.Seq.{drop-drop, get_or-drop, take-suc-set, drop-cons}
 use borrow.Author.Tests.{eq-eqb, ne_eqb, eqb-true, eqb-false}
 use Rattle.text.specs.declared.Number.{Number}
-use Rattle.text.specs.declared.Number.TheVariants as Number
 use Rattle.text.specs.Numerals.{numeral}
 use Rattle.text.proofs.Numerals.{numeral-most}
 use Rattle.lines.specs.Shapes.{most_of, items_of, next_of, item_of, items, unrolled, joined, before, fill, stored, filled, Fits, Records, Stands}

@@ -6,9 +6,7 @@ use mathlib.Core.List.{List, [], ◌∷◌}
 use Rattle.text.specs.Tokens.{cut, same}
 use Rattle.lines.specs.Shapes.{fill, filled}
 use Rattle.lines.specs.declared.call.Entry.{Entry}
-use Rattle.lines.specs.declared.call.Entry.TheVariants as Entry
 use Rattle.lines.specs.declared.call.Line.{Line}
-use Rattle.lines.specs.declared.call.Line.TheVariants as Line
 
 -- what a line asks for: the call of a verb, by its number, with the line's numbers; nothing; or what is no call
 pub data Asked : Type 0 where

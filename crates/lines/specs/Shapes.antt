@@ -2,11 +2,9 @@
 use Rattle.std.specs.Prelude.{◌≡◌, Bool, cond, List, [], ◌∷◌, ◌++◌, ℕ, zero, suc, ◌+◌, ◌-◌, ◌*◌, ◌%◌, ◌^◌, ◌≤◌, ◌<◌, eqb, length, take, drop, get_or, set}
 use Rattle.std.proofs.Math.Option.{Option, none, some}
 use Rattle.text.specs.declared.Number.{Number}
-use Rattle.text.specs.declared.Number.TheVariants as Number
 use Rattle.text.specs.Numerals.{numeral}
 use Rattle.paper.specs.Words.{width}
 use Rattle.lines.specs.declared.shape.Counted.{Counted}
-use Rattle.lines.specs.declared.shape.Counted.TheVariants as Counted
 use Rattle.lines.specs.declared.shape.Cursor.{Cursor}
 
 -- the most entries of a room that a line may ask for

@@ -16,14 +16,14 @@ pub const ROOM_LINE: usize = 131071;
 pub const ROOM_NUMBERS: usize = 65536;
 
 // An entry of the table: its number, and the place and the size of its shape.
-#[derive(Drop)]
+#[derive(Clone, Copy)]
 pub enum Entry {
     At(usize, usize, usize),
     None,
 }
 
 // What a line asks for: nothing; what is no call; or the call of a verb, by its number, on the first numbers of the room.
-#[derive(Drop)]
+#[derive(Clone, Copy)]
 pub enum Line {
     Silent,
     Unknown,
@@ -32,7 +32,7 @@ pub enum Line {
 
 // Finds a verb's name in a table of names and shapes in turn, separated by spaces.
 fn find(table: &[u8], name: &[u8]) -> Entry
-    ensures table_value { found result table.now ≡ lookup name.now 0 (cut 32 table.now) }
+    ensures entry { found result table.now ≡ lookup name.now 0 (cut 32 table.now) }
     ensures result_in_bounds { in_table result ≤ length table.now }
 {
     let mut at = 0;
@@ -57,8 +57,8 @@ fn find(table: &[u8], name: &[u8]) -> Entry
 
 // The call of verb v, if the numbers fit the shape.
 fn called(v: usize, numbers: Counted) -> Line
-    ensures by_index { (ns : List ℕ) → meant result ns ≡ Lines·called v (counted numbers ns) }
-    ensures result_value { used result ≡ held numbers }
+    ensures meaning { (ns : List ℕ) → meant result ns ≡ Lines·called v (counted numbers ns) }
+    ensures used_count { used result ≡ held numbers }
 {
     match numbers {
         Counted::All(count) => Line::Call(v, count),
@@ -69,9 +69,9 @@ fn called(v: usize, numbers: Counted) -> Line
 // The call that the tokens of a line spell.
 fn parse_call(line: &[u8], table: &[u8], numbers: &mut [Word]) -> Line
     requires { length line.now ≤ 2 * length numbers.old }
-    ensures numbers_after { meant result numbers.new ≡ spelled unknown calling table.now (cut 32 line.now) }
+    ensures meaning { meant result numbers.new ≡ spelled unknown calling table.now (cut 32 line.now) }
     ensures result_in_bounds { used result ≤ length numbers.new }
-    ensures numbers_after_2 { numbers.new ≡ spelled numbers.old (storing numbers.old) table.now (cut 32 line.now) }
+    ensures numbers_after { numbers.new ≡ spelled numbers.old (storing numbers.old) table.now (cut 32 line.now) }
 {
     let end = end_of(line, 0, b' ');
     if end == line.len() {
@@ -85,11 +85,12 @@ fn parse_call(line: &[u8], table: &[u8], numbers: &mut [Word]) -> Line
 }
 
 // What a line that ends at its last byte asks for. Its numbers are left in the lent room.
+#[tactic(auto, using(crate::proofs::Lines::line_cases))]
 fn parse_trimmed(line: &[u8], table: &[u8], numbers: &mut [Word]) -> Line
     requires { room_line ≤ 2 * length numbers.old }
-    ensures numbers_after { meant result numbers.new ≡ comes unknown calling silent table.now line.now }
+    ensures meaning { meant result numbers.new ≡ comes unknown calling silent table.now line.now }
     ensures result_in_bounds { used result ≤ length numbers.new }
-    ensures numbers_after_2 { numbers.new ≡ comes numbers.old (storing numbers.old) numbers.old table.now line.now }
+    ensures numbers_after { numbers.new ≡ comes numbers.old (storing numbers.old) numbers.old table.now line.now }
 {
     if line.len() == 0 {
         return Line::Silent;
@@ -104,8 +105,9 @@ fn parse_trimmed(line: &[u8], table: &[u8], numbers: &mut [Word]) -> Line
 }
 
 // Where a line ends: before the carriage return that may be its last byte.
+#[tactic(auto, using(crate::proofs::Lines::trimmed_off, crate::proofs::Lines::trimmed_kept))]
 fn trimmed_end(line: &[u8]) -> usize
-    ensures line_value { take result line.now ≡ trimmed line.now }
+    ensures trimmed_line { take result line.now ≡ trimmed line.now }
     ensures upper_bound { result ≤ length line.now }
 {
     let end = line.len();
@@ -121,9 +123,9 @@ fn trimmed_end(line: &[u8]) -> usize
 // What a line asks for. Its numbers are left in the lent room.
 pub fn parse(line: &[u8], table: &[u8], numbers: &mut [Word]) -> Line
     requires { room_line ≤ 2 * length numbers.old }
-    ensures numbers_after { meant result numbers.new ≡ asked table.now line.now }
+    ensures meaning { meant result numbers.new ≡ asked table.now line.now }
     ensures result_in_bounds { used result ≤ length numbers.new }
-    ensures numbers_after_2 { numbers.new ≡ asked_in table.now line.now numbers.old }
+    ensures numbers_after { numbers.new ≡ asked_in table.now line.now numbers.old }
 {
     let end = trimmed_end(line);
     parse_trimmed(&line[..end], table, numbers)

@@ -1,4 +1,6 @@
 // What a line asks for: the number of a verb and numbers, by a table of names and shapes. Knows no verb.
+#![tactic(auto)]
+
 mod call;
 mod shape;
 

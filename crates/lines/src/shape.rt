@@ -21,7 +21,7 @@ const MOST_BYTE: u64 = 255;
 pub const MOST_ROOM: usize = 4096;
 
 // Where a shape is read: `left` items of a list are to come, words or the numbers of records, and then the letters from `at` on.
-#[derive(Drop)]
+#[derive(Clone, Copy)]
 struct Cursor {
     at: usize,
     left: u64,
@@ -29,7 +29,7 @@ struct Cursor {
 }
 
 // How many numbers were read into the lent room, or that they do not fit the shape.
-#[derive(Drop)]
+#[derive(Clone, Copy)]
 pub enum Counted {
     All(usize),
     None,
@@ -104,8 +104,8 @@ fn passed(shape: &[u8], c: Cursor, x: u64) -> Cursor
     requires at_in_bounds { c.at ≤ length shape.now }
     requires nonzero { 0 < length (unread c shape.now) }
     requires x_bound { x ≤ most_of (get_or (unread c shape.now) 0 0) }
-    ensures shape_value { unread result shape.now ≡ unrolled (get_or (unread c shape.now) 0 0) x ++ drop 1 (unread c shape.now) }
-    ensures at_in_bounds_2 { result.at ≤ length shape.now }
+    ensures unread_after { unread result shape.now ≡ unrolled (get_or (unread c shape.now) 0 0) x ++ drop 1 (unread c shape.now) }
+    ensures at_after_in_bounds { result.at ≤ length shape.now }
 {
     if c.left > 0 {
         return Cursor {
@@ -127,9 +127,9 @@ fn passed(shape: &[u8], c: Cursor, x: u64) -> Cursor
 pub fn fill(line: &[u8], from: usize, shape: &[u8], numbers: &mut [Word]) -> Counted
     requires from_in_bounds { from ≤ length line.now }
     requires line_len_bound { length line.now ≤ 2 * length numbers.old }
-    ensures numbers_after { counted result numbers.new ≡ Shapes·fill shape.now (cut 32 (drop from line.now)) }
+    ensures meaning { counted result numbers.new ≡ Shapes·fill shape.now (cut 32 (drop from line.now)) }
     ensures result_in_bounds { held result ≤ length numbers.new }
-    ensures numbers_after_2 { numbers.new ≡ filled 0 numbers.old shape.now (cut 32 (drop from line.now)) }
+    ensures numbers_after { numbers.new ≡ filled 0 numbers.old shape.now (cut 32 (drop from line.now)) }
 {
     let mut at = from;
     let mut count = 0;

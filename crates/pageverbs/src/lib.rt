@@ -1,4 +1,6 @@
 // The verbs of the console that lend a page: pread and pwrite.
+#![tactic(auto)]
+
 ghost use Rattle.std.specs.Prelude.{◌≡◌, ◌+◌, ◌*◌, ◌≤◌, length, take};
 ghost use Rattle.paper.specs.Page.{page_after_write};
 ghost use Rattle.text.specs.Bytes.{bytes};
@@ -67,7 +69,7 @@ fn write_page(ns: &[Word], page: &mut [Word]) -> Numbers
 // `pwrite SHEET number LIST RECS slot message`. Its answer ends with the page: the copy, or the line's own where there are too many slots, since nothing is written then.
 pub fn pwrite(ns: &[Word], out: &mut [u8]) -> usize
     requires stands { Stands (bytes "nnnLnLRnw") 0 ns.now }
-    requires ns_in_bounds { 135 + 21 * length ns.now ≤ length out.old }
+    requires room { 135 + 21 * length ns.now ≤ length out.old }
     ensures put { Put out.old 0 (pwrite_text ns.now) result out.new }
     ensures upper_bound { result ≤ 135 + 21 * length ns.now }
 {
@@ -79,7 +81,8 @@ pub fn pwrite(ns: &[Word], out: &mut [u8]) -> usize
     let mut page = copy_page(ns, from, held);
     let told = write_page(ns, &mut page[..held]);
     let said = say(out, 0, b"word | d ", told);
-    if slots <= MOST_SLOTS {
+    let few = slots <= MOST_SLOTS;
+    if few {
         say_list(out, said, b" page ", &page[..held])
     } else {
         say_list(out, said, b" page ", &ns[from..end])

@@ -1,4 +1,6 @@
 // What a line lends: copies of its page and records, its lists, and rooms of the size that it asks for. A copy or a room is a local of the largest size, of which a part is lent.
+#![tactic(auto)]
+
 ghost use Rattle.std.specs.Prelude.{◌≡◌, ℕ, ◌+◌, ◌*◌, ◌≤◌, ◌<◌, length, take, drop, replicate};
 ghost use Rattle.lines.specs.Arguments.{part};
 ghost use Rattle.lines.specs.Arguments.{at as Arguments·at};
@@ -54,7 +56,7 @@ pub fn copy_records(ns: &[Word], from: usize, count: usize) -> [StuckCell; ROOM_
 }
 
 // A room that a line asks for: so many entries, each the fill.
-#[derive(Drop)]
+#[derive(Clone, Copy)]
 pub struct Room {
     pub size: usize,
     pub fill: Word,

@@ -1,4 +1,6 @@
 // The verbs of the console that lend rooms: tosheet and totables.
+#![tactic(auto)]
+
 ghost use Rattle.std.specs.Prelude.{◌+◌, ◌*◌, ◌≤◌, length};
 ghost use Rattle.paper.specs.Sheet.{sheet};
 ghost use Rattle.text.specs.Bytes.{bytes};
@@ -35,7 +37,7 @@ fn build_in(
 // `tosheet n k l LIST LIST LIST ROOM`: the tables P, R and Q, and the room for the sheet.
 pub fn tosheet(ns: &[Word], out: &mut [u8]) -> usize
     requires stands { Stands (bytes "nnnLLLmw") 0 ns.now }
-    requires most_room_in_bounds { 135 + 21 * (length ns.now + 3 * most_room) ≤ length out.old }
+    requires room { 135 + 21 * (length ns.now + 3 * most_room) ≤ length out.old }
     ensures put { Put out.old 0 (tosheet_text ns.now) result out.new }
     ensures upper_bound { result ≤ 135 + 21 * (length ns.now + 3 * most_room) }
 {
@@ -91,7 +93,7 @@ fn give_in(
 // `totables SHEET ROOM ROOM ROOM`: the rooms for the tables P, R and Q.
 pub fn totables(ns: &[Word], out: &mut [u8]) -> usize
     requires stands { Stands (bytes "nnnLmwmwmw") 0 ns.now }
-    requires most_room_in_bounds { 135 + 21 * (length ns.now + 3 * most_room) ≤ length out.old }
+    requires room { 135 + 21 * (length ns.now + 3 * most_room) ≤ length out.old }
     ensures put { Put out.old 0 (totables_text ns.now) result out.new }
     ensures upper_bound { result ≤ 135 + 21 * (length ns.now + 3 * most_room) }
 {

@@ -1,4 +1,6 @@
 // The conversation: the answer to a line, and the steps through the input, however it is cut into pieces. Nothing here reads or writes.
+#![tactic(auto)]
+
 ghost use Rattle.std.specs.Prelude.{◌≡◌, ◌*◌, ◌≤◌, ◌<◌, length, take, drop};
 ghost use Rattle.text.specs.Tokens.{Whole};
 ghost use Rattle.text.specs.Puts.{Put};
@@ -15,7 +17,7 @@ use verbs::{ask, reply};
 // Puts the answer to a line, if it gets one.
 fn answer(line: &[u8], ns: &mut [Word], out: &mut [u8]) -> usize
     requires room_line_bound { room_line ≤ 2 * length ns.old }
-    requires ns_in_bounds { room_reply ns.old ≤ length out.old }
+    requires room { room_reply ns.old ≤ length out.old }
     ensures put { Put out.old 0 (Replies·reply (asked table line.now)) result out.new }
     ensures upper_bound { result ≤ length out.old }
     ensures ns_after { ns.new ≡ asked_in table line.now ns.old }
@@ -31,7 +33,7 @@ fn answer(line: &[u8], ns: &mut [Word], out: &mut [u8]) -> usize
 }
 
 // What a step leaves: how many bytes are held of a line that has not ended, where the input goes on, and how many bytes the answer has.
-#[derive(Drop)]
+#[derive(Clone, Copy)]
 pub struct Step {
     pub held: usize,
     pub from: usize,
@@ -53,7 +55,7 @@ pub fn take_step(
     requires whole { Whole 10 (take held line.old) }
     requires rooms { Rooms line.old ns.old out.old }
     ensures stepped { Stepped (take held line.old) (drop from input.now) (take result.at out.new) (take result.held line.new) (drop result.from input.now) }
-    ensures from_lt_from { (from < result.from) × (result.from ≤ length input.now) × (result.held ≤ length line.old) × (result.at ≤ length out.old) }
+    ensures in_bounds { (from < result.from) × (result.from ≤ length input.now) × (result.held ≤ length line.old) × (result.at ≤ length out.old) }
     ensures left { Left input.now from held line.old ns.old out.old result line.new ns.new out.new }
 {
     let taken = take_line(input, from, line, held);

@@ -1,4 +1,6 @@
 // Bytes and numbers as text: where tokens end, numbers read and written, text behind text.
+#![tactic(auto)]
+
 ghost use Rattle.std.specs.Prelude.{◌≡◌, ◌++◌, ◌+◌, ◌≤◌, min, ltb, length, take, drop};
 ghost use Rattle.text.specs.Tokens.{up_to};
 ghost use Rattle.text.specs.Tokens.{same as Tokens·same};
@@ -6,7 +8,7 @@ ghost use Rattle.text.specs.Numerals.{numeral};
 ghost use Rattle.text.specs.Puts.{decimal, Put};
 
 // What a token is as a number.
-#[derive(Drop)]
+#[derive(Clone, Copy)]
 pub enum Number {
     Value(u64),
     None,
@@ -125,7 +127,7 @@ pub fn put_named(out: &mut [u8], at: usize, name: &[u8], n: u64, end: &[u8]) -> 
 }
 
 // What was taken of a line: whether it ended, how many of its bytes are held, and where the next line begins.
-#[derive(Drop)]
+#[derive(Clone, Copy)]
 pub struct Taken {
     pub ended: bool,
     pub held: usize,
@@ -138,7 +140,7 @@ pub fn take_line(input: &[u8], from: usize, line: &mut [u8], held: usize) -> Tak
     requires held_in_bounds { held ≤ length line.old }
     ensures ended_value { result.ended ≡ ltb (from + length (up_to 10 (drop from input.now))) (length input.now) }
     ensures from_value { result.from ≡ min (length input.now) (from + length (up_to 10 (drop from input.now)) + 1) }
-    ensures held_in_bounds_2 { result.held ≤ length line.old }
+    ensures held_after_in_bounds { result.held ≤ length line.old }
     ensures line_after { take result.held line.new ≡ take (length line.old) (take held line.old ++ up_to 10 (drop from input.now)) }
     ensures line_unchanged { drop result.held line.new ≡ drop result.held line.old }
 {

@@ -1,4 +1,6 @@
 // What the calls tell, as one struct of numbers: for the console, and for C, where an enum cannot pass.
+#![tactic(auto)]
+
 ghost use Rattle.std.specs.Prelude.{◌≡◌, [], ◌∷◌};
 ghost use Rattle.paper.specs.Refusals.{answer, more, refusal, refused, admission, written, reading, measured_d0, measured_d1, opening, outcome};
 ghost use Rattle.told.specs.Telling.{tells};
@@ -9,7 +11,7 @@ use paper::{
 
 // The kind (0 an answer, 1 "more than the cap", 2 a refusal), a refusal's number, and the first `count` of a, b and c.
 #[repr(C)]
-#[derive(Drop)]
+#[derive(Clone, Copy)]
 pub struct Numbers {
     pub kind: u32,
     pub number: u32,

@@ -1,5 +1,7 @@
 // The verbs of the console: their names and shapes in the table of `ask`, the call behind each, and its labels in the arms of `reply`. Those that lend a page are
 // functions of `pageverbs`, those that lend rooms of `tableverbs`, and the one that lends both of `wholeverbs`.
+#![tactic(auto)]
+
 ghost use Rattle.std.specs.Prelude.{◌+◌, ◌*◌, ◌≤◌, ◌<◌, ◌≡◌, length};
 ghost use Rattle.paper.specs.Sheet.{admits};
 ghost use Rattle.paper.specs.Writing.{writes};
@@ -105,9 +107,10 @@ fn open_page(ns: &[Word]) -> Numbers
 }
 
 // Puts the text of the answer to a verb's call.
+#[tactic(auto, unfolding(text::specs::Tokens::cut))]
 pub fn reply(verb: usize, ns: &[Word], out: &mut [u8]) -> usize
     requires stands { Stands (shape_at (cut 32 table) verb) 0 ns.now }
-    requires ns_in_bounds { room_reply ns.now ≤ length out.old }
+    requires room { room_reply ns.now ≤ length out.old }
     ensures put { Put out.old 0 (replied verb ns.now) result out.new }
     ensures upper_bound { result < room_reply ns.now }
 {
@@ -130,9 +133,9 @@ pub fn reply(verb: usize, ns: &[Word], out: &mut [u8]) -> usize
 // What a line asks for, by the table of the verbs: each verb's name and its shape.
 pub fn ask(line: &[u8], ns: &mut [Word]) -> Line
     requires { room_line ≤ 2 * length ns.old }
-    ensures ns_after { meant result ns.new ≡ asked table line.now }
+    ensures meaning { meant result ns.new ≡ asked table line.now }
     ensures result_in_bounds { used result ≤ length ns.new }
-    ensures ns_after_2 { ns.new ≡ asked_in table line.now ns.old }
+    ensures ns_after { ns.new ≡ asked_in table line.now ns.old }
 {
     parse(
         line,

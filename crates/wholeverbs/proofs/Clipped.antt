@@ -20,10 +20,10 @@ use Rattle.wholeverbs.specs.Wholes.{messages_in, notes_in, whole_written, page_l
 -- what is lent of a line: its rows, the first of its slots and records, its messages, and the room for notes
 pub record Lends (ns rows page : List ℕ) (records : List StuckCell) (messages notes : List ℕ) : Type 0 where
   pub rows_are : rows ≡ part 4 (behind ns) ns
-  pub page-is : page ≡ take room_slots (page_in ns)
-  pub records-are : records ≡ take room_records (records_in ns)
-  pub messages-are : messages ≡ messages_in ns
-  pub notes-are : notes ≡ notes_in ns
+  pub page_is : page ≡ take room_slots (page_in ns)
+  pub records_are : records ≡ take room_records (records_in ns)
+  pub messages_are : messages ≡ messages_in ns
+  pub notes_are : notes ≡ notes_in ns
 
 -- the records that are held are the first
 pub first-records : (ns : List ℕ) (records : List StuckCell) (held : ℕ) → held ≡ min (at ns (page_end ns)) room_records
@@ -38,9 +38,9 @@ module _ {ns rows page : List ℕ} {records : List StuckCell} {messages notes : 
   of-line : {A : Type 0} (f : Sheet → List ℕ → List StuckCell → List ℕ → List ℕ → A)
       → f s page records messages notes ≡ f (sheet_in ns) (take room_slots (page_in ns)) (take room_records (records_in ns)) (messages_in ns) (notes_in ns)
   of-line f =
-      ap₂ (λ (x y : List ℕ). f (sheet (at ns 0) (at ns 1) (at ns 2) x) y records messages notes) lent.rows_are lent.page-is
-      ∙ ap₂ (λ (x : List StuckCell) (y : List ℕ). f (sheet_in ns) (take room_slots (page_in ns)) x y notes) lent.records-are lent.messages-are
-      ∙ ap (f (sheet_in ns) (take room_slots (page_in ns)) (take room_records (records_in ns)) (messages_in ns)) lent.notes-are
+      ap₂ (λ (x y : List ℕ). f (sheet (at ns 0) (at ns 1) (at ns 2) x) y records messages notes) lent.rows_are lent.page_is
+      ∙ ap₂ (λ (x : List StuckCell) (y : List ℕ). f (sheet_in ns) (take room_slots (page_in ns)) x y notes) lent.records_are lent.messages_are
+      ∙ ap (f (sheet_in ns) (take room_slots (page_in ns)) (take room_records (records_in ns)) (messages_in ns)) lent.notes_are
 
   -- what is told, the page where it is not clipped, and the notes
   pub told-clipped : whole_writes s (arg ns 0) page records messages notes ≡ whole_written ns
@@ -54,7 +54,7 @@ module _ {ns rows page : List ℕ} {records : List StuckCell} {messages notes : 
       of-line (λ x p rs ms qs. whole_page x (arg ns 0) p rs ms qs)
       ∙ records-page (sheet_in ns) (arg ns 0) (messages_in ns) (notes_in ns) (take room_slots (page_in ns)) (records_in ns)
       ∙ ap (λ (p : List ℕ). whole_page (sheet_in ns) (arg ns 0) p (records_in ns) (messages_in ns) (notes_in ns))
-      (take_all room_slots (page_in ns) (omega (arith, few, ap length lent.page-is, length-take room_slots (page_in ns))))
+      (take_all room_slots (page_in ns) (omega (arith, few, ap length lent.page_is, length-take room_slots (page_in ns))))
 
   pub notes-clipped : whole_notes s (arg ns 0) page records messages notes ≡ notes_left ns
   notes-clipped =

@@ -1,4 +1,6 @@
 // The verb of the console that writes a whole page: wpage.
+#![tactic(auto)]
+
 ghost use Rattle.std.specs.Prelude.{◌≡◌, ◌+◌, ◌*◌, ◌≤◌, length, take};
 ghost use Rattle.paper.specs.Page.{most_slots};
 ghost use Rattle.text.specs.Bytes.{bytes};
@@ -19,7 +21,8 @@ use whole::write_held;
 // Writes the lent copy of the line's page, and the notes. Of a page or of records that are too many, one more than there may be are enough to tell it.
 fn write_whole(ns: &[Word], page: &mut [Word], notes: &mut [Word]) -> Numbers
     requires stands { Stands (bytes "nnnLnLRLmw") 0 ns.now }
-    requires page_value { (page.old ≡ take room_slots (page_in ns.now)) × (notes.old ≡ notes_in ns.now) }
+    requires page_value { page.old ≡ take room_slots (page_in ns.now) }
+    requires notes_value { notes.old ≡ notes_in ns.now }
     ensures result_value { tells result ≡ whole_written ns.now }
     ensures page_after { length page.old ≤ most_slots → page.new ≡ page_left ns.now }
     ensures notes_after { notes.new ≡ notes_left ns.now }
@@ -58,8 +61,9 @@ fn say_whole(told: Numbers, page: &[Word], notes: &[Word], out: &mut [u8]) -> us
 // Writes the lent copy and the notes, and puts the answer. It has the line's own page where there are too many slots, since nothing is written then.
 fn write_in(ns: &[Word], page: &mut [Word], notes: &mut [Word], out: &mut [u8]) -> usize
     requires stands { Stands (bytes "nnnLnLRLmw") 0 ns.now }
-    requires page_value { (page.old ≡ take room_slots (page_in ns.now)) × (notes.old ≡ notes_in ns.now) }
-    requires notes_in_bounds { 135 + 21 * (length ns.now + length notes.old) ≤ length out.old }
+    requires page_value { page.old ≡ take room_slots (page_in ns.now) }
+    requires notes_value { notes.old ≡ notes_in ns.now }
+    requires room { 135 + 21 * (length ns.now + length notes.old) ≤ length out.old }
     ensures put { Put out.old 0 (wpage_text ns.now) result out.new }
     ensures upper_bound { result ≤ 135 + 21 * (length ns.now + length notes.old) }
 {
@@ -75,7 +79,7 @@ fn write_in(ns: &[Word], page: &mut [Word], notes: &mut [Word], out: &mut [u8]) 
 // `wpage SHEET number LIST RECS LIST ROOM`: the page, the messages, and the room for the notes.
 pub fn wpage(ns: &[Word], out: &mut [u8]) -> usize
     requires stands { Stands (bytes "nnnLnLRLmw") 0 ns.now }
-    requires most_room_in_bounds { 135 + 21 * (length ns.now + 3 * most_room) ≤ length out.old }
+    requires room { 135 + 21 * (length ns.now + 3 * most_room) ≤ length out.old }
     ensures put { Put out.old 0 (wpage_text ns.now) result out.new }
     ensures upper_bound { result ≤ 135 + 21 * (length ns.now + 3 * most_room) }
 {
