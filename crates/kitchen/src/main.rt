@@ -1,8 +1,11 @@
 // The small program of document 01: it measures the kitchen sheet at cap 8, writes message 5 with cell 0 stuck at 0 and reads the
 // result at radius 1. Its whole output is four lines, put into one room and written at once; the gate compares them with `stdout` beside `src`.
+#![tactic(auto)]
+
 ghost use Rattle.std.specs.Prelude.{◌+◌, ◌≤◌, length};
 
 use paper::{Count, MeasuredD0, MeasuredD1, Reading, Word, Written};
+use std::process::ExitCode;
 use streams::{end_well, tell_failure, write_all};
 use text::{put, put_named};
 
@@ -101,14 +104,16 @@ fn put_lines(out: &mut [u8], rows: &[Word]) -> usize
     put_write(out, second, rows)
 }
 
-// The room for the lines, and what was put into it, written at once.
-fn main() {
+// The room for the lines, and what was put into it, written at once. The status says whether it was written.
+fn main(rt: HostRuntime) -> ExitCode {
     let rows = kitchen_rows();
     let mut out = [0u8; 210];
     let end = put_lines(&mut out, &rows);
-    if write_all(&out[..end]) {
-        end_well();
-    } else {
-        tell_failure(b"kitchen: standard output");
+    match write_all(&mut rt.stdout(), &out[..end]) {
+        Ok(()) => end_well(),
+        Err(error) => {
+            tell_failure(&rt, &mut rt.stderr(), b"kitchen: standard output", &error);
+            ExitCode::FAILURE
+        }
     }
 }

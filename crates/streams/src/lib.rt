@@ -1,30 +1,40 @@
 // Standard input and output, with their faults: what a signal broke off is tried again, a write that takes a part goes on with the rest, and any
 // other failure ends the reading or writing, and can be told on standard error.
-ghost use Rattle.std.specs.Prelude.{◌≤◌, ◌<◌, ◌≡◌, true, false, [], ◌∷◌, length, take};
+#![tactic(auto)]
 
-use libc::{STDIN_FILENO, STDOUT_FILENO};
+ghost use Rattle.std.specs.Prelude.{◌≤◌, ◌<◌, ◌≡◌, true, false, [], ◌∷◌, length, take, OnOk};
+ghost use Rattle.std.specs.Io.{ReadsAtMost, WritesAtMost};
+ghost use Rattle.std.specs.Io.KnownBytes.{Appends, Consumes, IsAtEnd, ReadConsumes, WriteAppends};
+ghost use Rattle.std.specs.Process.{exit_status};
 
-// How often a read or a write that a signal broke off is tried again.
+use std::alloc::AllocError;
+use std::io::{Error, ErrorKind, Read, Write};
+use std::process::ExitCode;
+
+// How often a read or a write that a signal broke off is tried.
 const TRIES: u32 = 1000;
 
-// Reads into a room; a negative number if that failed.
-fn read_some(input: &mut [u8]) -> isize {
-    let mut tries = TRIES;
-    while tries > 0 {
-        let got = libc::read(STDIN_FILENO, input);
-        if got >= 0 {
-            return got;
+// Whether a signal broke off what failed.
+fn is_broken_off(error: &Error) -> bool {
+    error.kind() == ErrorKind::Interrupted
+}
+
+// Reads into a room.
+fn read_some<R: Read>(from: &mut R, input: &mut [u8]) -> std::io::Result<usize>
+    ensures bound { ReadsAtMost result input.new }
+    ensures bytes { ReadConsumes (R.remaining from.old) (R.remaining from.new) result input.new }
+{
+    for _ in 1..TRIES {
+        match from.read(input) {
+            Err(error) if is_broken_off(&error) => {}
+            got => return got,
         }
-        if os::errno() != libc::EINTR {
-            return got;
-        }
-        tries -= 1;
     }
-    -1
+    from.read(input)
 }
 
 // What a read left: how many bytes of the input, whether they are the last, and whether the input ended well.
-#[derive(Drop)]
+#[derive(Clone, Copy)]
 pub struct Got {
     pub count: usize,
     pub last: bool,
@@ -33,73 +43,107 @@ pub struct Got {
 
 // Reads a piece of the input. Where the input ends, a newline is its last piece, so that a last line without one ends too. A failure is told on
 // standard error, under the given name, and ends the input with no piece: what came before it is not taken for a line.
-pub fn read_piece(input: &mut [u8], name: &[u8]) -> Got
+pub fn read_piece<R: Read, W: Write>(
+    rt: &impl Alloc,
+    from: &mut R,
+    errors: &mut W,
+    input: &mut [u8],
+    name: &[u8],
+) -> Got
     requires { 0 < length input.old }
     ensures count_in_bounds { result.count ≤ length input.new }
     ensures count_value { result.good ≡ false → result.count ≡ 0 }
     ensures input_after { result.last ≡ true → result.good ≡ true → take result.count input.new ≡ 10 ∷ [] }
+    ensures piece { result.last ≡ false → Consumes (R.remaining from.old) (R.remaining from.new) (take result.count input.new) }
+    ensures end { result.last ≡ true → result.good ≡ true → IsAtEnd (R.remaining from.old) }
 {
-    let got = read_some(input);
-    if got < 0 {
-        os::fail(name);
-        return Got {
-            count: 0,
-            last: true,
-            good: false,
-        };
-    }
-    if got == 0 {
-        input[0] = b'\n';
-        return Got {
-            count: 1,
-            last: true,
+    match read_some(from, input) {
+        Err(error) => {
+            tell_failure(rt, errors, name, &error);
+            Got {
+                count: 0,
+                last: true,
+                good: false,
+            }
+        }
+        Ok(0) => {
+            input[0] = b'\n';
+            Got {
+                count: 1,
+                last: true,
+                good: true,
+            }
+        }
+        Ok(count) => Got {
+            count,
+            last: false,
             good: true,
-        };
-    }
-    Got {
-        count: io::count(got, input),
-        last: false,
-        good: true,
+        },
     }
 }
 
-// Writes the first bytes of a text, and says how many; 0 if that failed.
-fn write_some(bytes: &[u8]) -> usize
-    ensures { result ≤ length bytes.now }
+// Writes the first bytes of a text, and says how many.
+fn write_some<W: Write>(to: &mut W, bytes: &[u8]) -> std::io::Result<usize>
+    ensures bound { WritesAtMost result bytes.now }
+    ensures bytes { WriteAppends (W.contents to.old) (W.contents to.new) result bytes.now }
 {
-    let mut tries = TRIES;
-    while tries > 0 {
-        let got = libc::write(STDOUT_FILENO, bytes);
-        if got >= 0 {
-            return io::count(got, bytes);
+    for _ in 1..TRIES {
+        match to.write(bytes) {
+            Err(error) if is_broken_off(&error) => {}
+            put => return put,
         }
-        if os::errno() != libc::EINTR {
-            return 0;
-        }
-        tries -= 1;
     }
-    0
+    to.write(bytes)
 }
 
-// Writes all of a text, and says whether it was written.
-pub fn write_all(bytes: &[u8]) -> bool {
+// Writes all of a text.
+pub fn write_all<W: Write>(to: &mut W, bytes: &[u8]) -> std::io::Result<()>
+    ensures { OnOk result (Appends (W.contents to.old) (W.contents to.new) bytes.now) }
+{
     let mut done = 0;
     while done < bytes.len() {
-        let count = write_some(&bytes[done..]);
+        let count = write_some(to, &bytes[done..])?;
         if count == 0 {
-            return false;
+            return Err(Error::from(ErrorKind::WriteZero));
         }
         done += count;
     }
-    true
+    Ok(())
 }
 
-// Tells on standard error, under the given name, why the last read or write failed.
-pub fn tell_failure(name: &[u8]) {
-    os::fail(name);
+// The system's words for a failure, without its number.
+fn words_of(error: &str) -> &str {
+    match error.split_once(" (os error ") {
+        Some((words, _)) => words,
+        None => error,
+    }
 }
 
-// Says that the program ends well: a program has no exit status, so it writes a byte to descriptor 3, for a caller that opened it.
-pub fn end_well() {
-    io::write_all(3, b".");
+// Writes why a read or a write failed, behind a name, on a line.
+fn put_failure<W: Write>(
+    rt: &impl Alloc,
+    to: &mut W,
+    name: &[u8],
+    error: &Error,
+) -> std::io::Result<()> {
+    write_all(to, name)?;
+    write_all(to, b": ")?;
+    match format!(in rt.alloc(); "{error}") {
+        Ok(text) => write_all(to, words_of(text.as_str()).as_bytes())?,
+        Err(AllocError) => write!(to, "{error}")?,
+    }
+    write_all(to, b"\n")
+}
+
+// Tells on standard error, or what stands for it, under the given name, why a read or a write failed. Where that fails too, nobody can be told.
+pub fn tell_failure<W: Write>(rt: &impl Alloc, to: &mut W, name: &[u8], error: &Error) {
+    let _lost = put_failure(rt, to, name, error);
+}
+
+// How a program ends well: the exit status says so to its caller, and a byte on descriptor 3, for a caller that opened it.
+pub fn end_well() -> ExitCode
+    ensures { exit_status result ≡ 0 }
+{
+    let _told = io::write_all(3, b".");
+    ExitCode::SUCCESS
 }
