@@ -9,10 +9,10 @@ import time
 
 from .feeding import on_terminal, redirected, shown
 from .running import DOOR, ROOT, bad, ended, good, gone, holds, left, other_user, run, same, short, soon, test
-from .stand import Stand
+from .stand import PASSES, Stand
 
 
-TOOLS = ["bash", "sh", "dirname", "readlink", "uname", "mkdir", "rm", "grep", "tail", "sleep", "cat", "env"]
+TOOLS = ["bash", "sh", "dirname", "readlink", "mkdir", "rm", "grep", "tail", "sleep", "cat", "env"]
 
 
 @test("the door: `.` on descriptor 3 is status 0, input and output pass through")
@@ -22,12 +22,14 @@ def _():
 
 @test("the door: a silent end without `.` is status 1 and one line")
 def _():
-    bad(Stand("cat").run(data=b"one\n"), b"one\n", "namestore: console ended early")
+    for status in (0, 1, 2, 100):
+        bad(Stand("cat; exit %d" % status).run(data=b"one\n"), b"one\n", "namestore: console ended early")
 
 
 @test("the door: what the program says is passed on, once, with status 1")
 def _():
-    bad(Stand("echo 'console: standard output: no room' >&2").run(), b"", "console: standard output: no room")
+    for status in (0, 1, 2, 100):
+        bad(Stand("echo 'console: standard output: no room' >&2; exit %d" % status).run(), b"", "console: standard output: no room")
 
 
 @test("the door: other words on descriptor 3 are no good end")
@@ -39,6 +41,15 @@ def _():
 @test("the door: a program that is killed is status 1 and one line that names the signal")
 def _():
     bad(Stand("echo one; kill -KILL $$").run(), b"one\n", "namestore: console was ended by signal KILL")
+
+
+@test("the door: a program that cannot be started is status 1, and says so")
+def _():
+    stand = Stand()
+    os.chmod(os.path.join(stand.checkout, "crates/console/out/console"), 0o644)
+    status, out, err = stand.run("--built")
+    same((status, out), (1, b""), "status and output")
+    holds(b"console/out/console" in err, "standard error %s" % short(err))
 
 
 @test("the door: a last word without a newline is passed on")
@@ -53,10 +64,12 @@ def _():
 
 @test("the door: the program has descriptors 0 to 3 and no other, and the caller's folder")
 def _():
-    status, out, _ = Stand("ls /proc/$$/fd; pwd; printf . >&3").run(cwd="/")
-    same(status, 0, "status")
-    seen = [word for word in out.split() if word not in (b"10", b"255")]  # at which a shell holds its script
-    same(seen, [b"0", b"1", b"2", b"3", b"/"], "descriptors and folder")
+    stand = Stand("ls /proc/$$/fd; pwd; printf . >&3")
+    for command in ([stand.door], ["sh", "-c", 'exec "$0" 3>/dev/null', stand.door]):
+        status, out, _ = stand.run(command=command, cwd="/")
+        same(status, 0, "status")
+        seen = [word for word in out.split() if word not in (b"10", b"255")]  # at which a shell holds its script
+        same(seen, [b"0", b"1", b"2", b"3", b"/"], "descriptors and folder")
 
 
 @test("the door: input that the program leaves stays for the next reader")
@@ -67,7 +80,7 @@ def _():
 
 @test("the door fails closed: the check fails, or passes without saying so")
 def _():
-    for check in ("echo 'rt: FAILED: console'; exit 1", "exit 0", "echo 'rt: ok, 1 crates proved'; exit 2", "kill -KILL $$", "exit 127"):
+    for check in ("echo 'logic=not-proved'; exit 1", "exit 0", PASSES + "; exit 1", "echo not one word of it", "kill -KILL $$", "exit 127"):
         status, out, err = Stand("echo run", check).run()
         same((status, out), (1, b""), "after %r" % check)
         holds(b"the check did not pass" in err, "standard error %s" % short(err))
@@ -75,23 +88,19 @@ def _():
 
 @test("the door fails closed: target/ or its parts cannot be written to")
 def _():
-    for name, part in (("a file for target", "target"), ("a folder for the log", "target/console.log/x"), ("a file for rt's notes", "target/log")):
+    for part in ("target", "target/console.log/x"):  # a file where the folder would be, a folder where the log would be
         stand = Stand("echo run")
-        if part in ("target", "target/log"):
-            shutil.rmtree(os.path.join(stand.checkout, part), ignore_errors=True)
         stand.file("a checkout/" + part, "")
         bad(stand.run(), b"", "namestore: target/ cannot be written to")
 
 
-@test("the door fails closed: a checkout of another user, on which rt would take its old notes for new")
+@test("the door fails closed: a checkout of another user")
 def _():
-    stand = Stand("echo run")
-    stand.file("a checkout/target/log/console.res", "proved")
-    same(stand.run()[0], 1, "status of its owner's start (the program gives no `.`)")
-    stand.file("a checkout/target/log/console.res", "proved")
+    stand = Stand("echo run; printf . >&3")
+    good(stand.run(), b"run\n")
     with other_user(stand.checkout) as prefix:
         bad(stand.run(command=prefix + [stand.door]), b"", "namestore: target/ cannot be written to")
-        same(stand.run("--built", command=prefix + [stand.door])[1], b"run\n", "output of --built")
+        good(stand.run("--built", command=prefix + [stand.door]), b"run\n")
 
 
 @test("the door: no rt on the path is status 1 and one line")
@@ -99,14 +108,6 @@ def _():
     stand = Stand()
     bad(stand.run(env={"PATH": stand.path_of(*TOOLS).split(":")[1]}), b"", "namestore: the Rattle kit is needed")
     bad(stand.run("--built", env={"PATH": stand.path_of(*TOOLS).split(":")[1]}), b"", "namestore: the Rattle kit is needed")
-
-
-@test("the door: a program that was proved and is gone is linked again")
-def _():
-    stand = Stand(check="[ -e target/stamp/console ] || echo 'printf . >&3' > target/bin/console; echo 'rt: ok, 1 crates proved'")
-    stand.file("a checkout/target/stamp/console", "")
-    os.remove(os.path.join(stand.checkout, "target/bin/console"))
-    good(stand.run(), b"")
 
 
 @test("the door: --built checks nothing and writes nothing; without a program it is status 1")
@@ -129,18 +130,15 @@ def _():
     same(listed(), before, "files outside target/")
 
 
-@test("the door: says that it proves where it does, and only there")
+@test("the door: says that it proves where that takes long, and only there")
 def _():
-    proving = "echo > target/log/words.say; sleep 0.3; echo 'rt: ok, 1 crates proved'"
-    same(Stand(check=proving).run(), (0, b"", b"namestore: proving, about two minutes, once\n"), "outcome where a crate is proved")
-    slow = Stand(check="sleep 0.3; echo 'rt: ok, 1 crates proved'")
-    slow.file("a checkout/target/log/words.say", "")
-    good(slow.run(), b"")
+    same(Stand(check="sleep 4; " + PASSES).run(), (0, b"", b"namestore: proving, some minutes, once\n"), "outcome of a check that takes long")
+    good(Stand(check="sleep 0.3; " + PASSES).run(), b"")
 
 
 @test("the door: twelve starts at once check one after the other")
 def _():
-    stand = Stand(check="mkdir target/busy || exit 1; sleep 0.05; rmdir target/busy; echo 'rt: ok, 1 crates proved'")
+    stand = Stand(check="mkdir target/busy || exit 1; sleep 0.05; rmdir target/busy; " + PASSES)
     started = [stand.start(stdin=subprocess.DEVNULL) for _ in range(12)]
     for process in started:
         same(ended(process)[:2], (0, b""), "status and output")
@@ -151,7 +149,7 @@ def _():
     for tools in (["perl"], ["python3"], []):
         if tools and not shutil.which(tools[0]):
             continue
-        stand = Stand(check="mkdir target/busy || exit 1; sleep 0.1; rmdir target/busy; echo 'rt: ok, 1 crates proved'")
+        stand = Stand(check="mkdir target/busy || exit 1; sleep 0.1; rmdir target/busy; " + PASSES)
         path = {"PATH": stand.path_of(*(TOOLS + ["rmdir"] + [t for t in tools if t != "python3"]))}
         if "python3" in tools:
             os.symlink(sys.executable, os.path.join(path["PATH"].split(":")[1], "python3"))
@@ -164,23 +162,23 @@ def _():
 
 @test("the door: a signal while proving leaves no prover and no lock, and is the end that it gives")
 def _():
-    prover = "echo > target/log/words.say; sh -c 'sleep 50 & sleep 50; true' & sh -c 'sleep 50; true'; echo 'rt: ok, 1 crates proved'"
+    prover = "sh -c 'sleep 50 & sleep 50; true' & sh -c 'sleep 50; true'; " + PASSES
     for number in (signal.SIGTERM, signal.SIGINT, signal.SIGHUP, signal.SIGQUIT):
         stand = Stand(check=prover)
         process = stand.start()
-        same(process.stderr.readline(), b"namestore: proving, about two minutes, once\n", "first line on standard error")
+        same(process.stderr.readline(), b"namestore: proving, some minutes, once\n", "first line on standard error")
         holds(soon(lambda: len(left()) >= 6), "the stand-in prover did not start")
         process.send_signal(number)
         status = 1 if number == signal.SIGQUIT else -number  # bash does not die of SIGQUIT
         same(ended(process, limit=5), (status, b"", b""), "status and the rest of what is written")
         holds(soon(lambda: not left()), "processes left after %s" % number.name)
-        stand.file("kit/check", "echo 'rt: ok, 1 crates proved'")
+        stand.file("kit/check", PASSES)
         good(stand.run(data=b"one\n"), b"one\n")
 
 
 @test("the door: a key that interrupts, sent to its whole process group, leaves no prover")
 def _():
-    stand = Stand(check="echo > target/log/words.say; sh -c 'sleep 50; true'; echo 'rt: ok, 1 crates proved'")
+    stand = Stand(check="sh -c 'sleep 50; true'; " + PASSES)
     process = stand.start()
     holds(soon(lambda: len(left()) >= 4), "the stand-in prover did not start")
     os.killpg(process.pid, signal.SIGINT)
@@ -190,7 +188,7 @@ def _():
 
 @test("the door: with nobody left to tell that it proves, it leaves no prover")
 def _():
-    stand = Stand(check="echo > target/log/words.say; sh -c 'sleep 50; true'; echo 'rt: ok, 1 crates proved'")
+    stand = Stand(check="sh -c 'sleep 50; true'; " + PASSES)
     same(stand.run(stdin=subprocess.DEVNULL, stderr=gone())[:2], (-signal.SIGPIPE, b""), "status and output")
     holds(soon(lambda: not left()), "processes left")
 
@@ -204,13 +202,12 @@ def _():
 
 @test("the door: target/ removed while starts check and wait")
 def _():
-    stand = Stand(check="mkdir -p target/log; sleep 0.4; mkdir ../busy 2>/dev/null || exit 1; sleep 0.1; rmdir ../busy; echo 'rt: ok, 1 crates proved'")
+    stand = Stand(check="sleep 0.4; mkdir ../busy 2>/dev/null || exit 1; sleep 0.1; rmdir ../busy; " + PASSES)
     first = stand.start(stdin=subprocess.DEVNULL)
     holds(soon(lambda: os.path.exists(os.path.join(stand.checkout, "target/console.log"))), "the first did not start")
     others = [stand.start(stdin=subprocess.DEVNULL) for _ in range(3)]
     time.sleep(0.2)
     shutil.rmtree(os.path.join(stand.checkout, "target"))
-    stand.file("a checkout/target/bin/console", "printf . >&3")
     same(ended(first)[0], 1, "status of the one whose log is gone")
     for process in others:
         good(ended(process), b"")
@@ -218,12 +215,12 @@ def _():
 
 @test("the door: a start that waits long for another's check says so, once")
 def _():
-    stand = Stand(check="sleep 4; echo 'rt: ok, 1 crates proved'")
+    stand = Stand(check="sleep 5; " + PASSES)
     first = stand.start(stdin=subprocess.DEVNULL)
     holds(soon(lambda: os.path.exists(os.path.join(stand.checkout, "target/console.log"))), "the first did not start")
     second = stand.start(stdin=subprocess.DEVNULL)
-    good(ended(first), b"")
-    stand.file("kit/check", "echo 'rt: ok, 1 crates proved'")
+    same(ended(first), (0, b"", b"namestore: proving, some minutes, once\n"), "outcome of the first")
+    stand.file("kit/check", PASSES)
     status, out, err = ended(second)
     same((status, out, err.split(b",")[0], err.count(b"\n")), (0, b"", b"namestore: waiting for another start", 1), "outcome of the second")
 
@@ -243,7 +240,7 @@ def _():
 
 @test("the door: after a start that was killed outright, the next waits for its check and no longer")
 def _():
-    stand = Stand(check="[ -e target/second ] || { >target/second; sleep 1.5; rm -f target/late; >target/done; exit 0; }; [ -e target/done ] && echo 'rt: ok, 1 crates proved'")
+    stand = Stand(check="[ -e target/second ] || { >target/second; sleep 1.5; rm -f target/late; >target/done; exit 0; }; [ -e target/done ] && " + PASSES)
     process = stand.start()
     holds(soon(lambda: os.path.exists(os.path.join(stand.checkout, "target/second"))), "the first did not start")
     process.kill()
@@ -264,7 +261,7 @@ def _():
 
 @test("the door on a terminal: lines are answered as they are typed, and the interrupt key ends all")
 def _():
-    for stand, text, answer in ((Stand(), b"one\n", b"one\r\none\r\n"), (Stand(check="echo > target/log/words.say; sh -c 'sleep 50; true'"), b"", b"proving")):
+    for stand, text, answer in ((Stand(), b"one\n", b"one\r\none\r\n"), (Stand(check="sh -c 'sleep 50; true'"), b"", b"proving")):
         process, terminal = on_terminal([stand.door], stand.env)
         os.write(terminal, text)
         shown(terminal, answer)

@@ -3,6 +3,7 @@ import os
 import random
 import re
 import resource
+import shutil
 import signal
 import socket
 import subprocess
@@ -350,7 +351,7 @@ def _():
     same(answered(process), WORD, "answer")
     for pid in left():
         with open("/proc/%d/cmdline" % pid, "rb") as line:
-            if line.read().split(b"\0")[-2].endswith(b"/target/bin/console"):
+            if line.read().split(b"\0")[-2].endswith(b"/console/out/console"):
                 os.kill(pid, signal.SIGKILL)
     bad(ended(process), b"", "namestore: console was ended by signal KILL")
 
@@ -374,7 +375,7 @@ def _():
 
 @test("a checkout that cannot be written to: the check fails closed, --built runs; so does a source that is not right")
 def _():
-    folder = copied("namestore", "crates.txt", "crates", "target")
+    folder = copied(built=True)
     door = os.path.join(folder, "namestore")
     good(run([door], WRITE), WORD)
     with other_user(folder) as prefix:
@@ -382,12 +383,25 @@ def _():
         good(run(prefix + [door, "--built"], WRITE), WORD)
     with open(os.path.join(folder, "crates/console/src/main.rt"), "a") as source:
         source.write("fn {\n")
-    notes = os.path.join(folder, "target/log")
+    kept = os.path.join(folder, "crates/console/out")  # what rt noted of the last check cannot be written, the rest can
     if os.geteuid() == 0:
         subprocess.run(["chown", "-R", "65534:65534", folder], check=True)
-        subprocess.run(["chown", "-R", "0:0", notes], check=True)
-    with other_user(notes) as prefix:
-        bad(run(prefix + [door], WRITE), b"", "namestore: target/ cannot be written to")
+        subprocess.run(["chown", "-R", "0:0", kept], check=True)
+    with other_user(kept) as prefix:
+        status, out, err = run(prefix + [door], WRITE, limit=50)
+        same((status, out), (1, b""), "with a source that is not right, and notes that cannot be written")
+        holds(b"the check did not pass" in err, "standard error %s" % short(err))
     status, out, err = run([door], WRITE, limit=60)
     same((status, out), (1, b""), "with a source that is not right")
     holds(b"the check did not pass" in err, "standard error %s" % short(err))
+    good(run([door, "--built"], WRITE), WORD)
+
+
+@test("a program that is gone, or is another than was proved, is linked again", cold=True)
+def _():
+    folder = copied(built=True)
+    door, kitchen = os.path.join(folder, "namestore"), os.path.join(folder, "crates/kitchen/out/kitchen")
+    os.remove(kitchen)
+    same(run([door, "kitchen"], limit=600)[:2], (0, FOUR_LINES), "with no program")
+    shutil.copy(os.path.join(folder, "crates/console/out/console"), kitchen)
+    same(run([door, "kitchen"], limit=600)[:2], (0, FOUR_LINES), "with another program")

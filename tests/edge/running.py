@@ -21,6 +21,11 @@ scratch = tempfile.mkdtemp(prefix="edges-")
 os.chmod(scratch, 0o755)
 
 
+def program(name):
+    """The path of a program, as rt links it."""
+    return os.path.join(ROOT, "crates", name, "out", name)
+
+
 class Failed(Exception):
     """What a test found wrong."""
 
@@ -175,12 +180,13 @@ class other_user:
         subprocess.run(["chmod", "-R", change, self.folder], check=True)
 
 
-def copied(*parts):
-    """A copy of these parts of the checkout."""
+def copied(built):
+    """A copy of what the front door needs of the checkout: with what is built of it or without, and in no case with what a check keeps for the next one."""
     folder = os.path.join(tempfile.mkdtemp(dir=scratch), "a copy")
     os.chmod(os.path.dirname(folder), 0o755)
-    os.mkdir(folder)
-    for part in parts:
-        subprocess.run(["cp", "-R", os.path.join(ROOT, part), os.path.join(folder, part)], check=True)
+    left_out = shutil.ignore_patterns("incremental" if built else "out")
+    shutil.copytree(os.path.join(ROOT, "crates"), os.path.join(folder, "crates"), ignore=left_out)
+    for name in ("namestore", "crates.txt"):
+        shutil.copy(os.path.join(ROOT, name), folder)
     subprocess.run(["chmod", "-R", "a+rX", folder], check=True)
     return folder

@@ -6,10 +6,14 @@ import tempfile
 from .running import DOOR, ended, scratch, start
 
 
-class Stand:
-    """A checkout with the front door as it is, and a kit whose rt and programs are shell scripts."""
+# What rt says before it runs the program that it has proved and linked.
+PASSES = "echo 'rt: running out/console; to give it other input, run that file yourself'"
 
-    def __init__(self, program="cat; printf . >&3", check="echo 'rt: ok, 1 crates proved'"):
+
+class Stand:
+    """A checkout with the front door as it is, and an rt and programs that are shell scripts. The check is run at the top of the checkout."""
+
+    def __init__(self, program="cat; printf . >&3", check=PASSES):
         self.home = tempfile.mkdtemp(dir=scratch)
         os.chmod(self.home, 0o755)
         self.checkout = os.path.join(self.home, "a checkout")
@@ -18,11 +22,9 @@ class Stand:
         self.bin = os.path.join(kit, "bin")
         self.file("a checkout/crates.txt", "")
         shutil.copy(DOOR, self.door)
-        self.file("kit/docs/START-HERE.md", "")
-        self.file("kit/bin/rt", '#!/bin/sh\ncase $1 in doc) echo "%s/docs/START-HERE.md" ;; check) . "%s/check" ;; esac\n' % (kit, kit))
+        self.file("kit/bin/rt", '#!/bin/sh\n[ "$*" = run ] && cd ../.. && [ "$PWD/crates/console" = "$OLDPWD" ] || exit 2\n. "%s/check"\n' % kit)
         self.file("kit/check", check)
-        self.file("kit/on/%s/toolchain/lib/ld-linux-x86-64.so.2" % os.uname().machine, '#!/bin/sh\nexec sh "$3"\n')
-        self.file("a checkout/target/bin/console", program)
+        self.file("a checkout/crates/console/out/console", "#!/bin/sh\n" + program)
         self.env = {"PATH": self.bin + ":" + os.environ["PATH"]}
 
     def file(self, name, text):

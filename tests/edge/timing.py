@@ -16,7 +16,7 @@ CALL(admit) CALL(write) CALL(read) CALL(d0) CALL(d1) CALL(page_write_all)
 
 # An rt that makes it in the place of the store's.
 MAKES_ALIKE = """#!/bin/sh
-mkdir -p target/staticlib && cc -O1 -fPIC -c alike.c -o target/alike.o && rm -f target/staticlib/libexports.a && ar rcs target/staticlib/libexports.a target/alike.o
+[ "$*" = lib ] && mkdir -p out && cc -O1 -fPIC -c ../../alike.c -o out/alike.o && rm -f out/libexports.a && ar rcs out/libexports.a out/alike.o
 """
 
 
@@ -34,6 +34,7 @@ class Bench(Stand):
 
     def __init__(self, **tools):
         super().__init__()
+        os.makedirs(os.path.join(self.checkout, "crates", "exports"))
         shutil.copytree(os.path.join(ROOT, "bench"), os.path.join(self.checkout, "bench"), ignore=shutil.ignore_patterns("target"))
         for name, text in tools.items():
             self.file("kit/bin/" + name, text)
