@@ -17,6 +17,11 @@ pub paged-stage : (s : Sheet) (number : ℕ) (few : Bool) → Stage (paged s num
 unfolding paged
 paged-stage s number few = then (judged-stage s) (then (unless-stage (numbered number) 16) (unless-stage few 13))
 
+-- what was told by the code's test of slots and records is told by the definition's
+pub paged-tested : (s : Sheet) (number : ℕ) {few tested : Bool} {told : Told} → few ≡ tested → told ≡ paged s number few (answer [])
+    → told ≡ paged s number tested (answer [])
+paged-tested s number e q = q ∙ ap (λ (b : Bool). paged s number b (answer [])) e
+
 -- what passes them has a sound sheet
 pub page-sound : (s : Sheet) (number : ℕ) (few : Bool) (verdict : Admission) → admission verdict ≡ paged s number few (answer [])
     → verdict ≡ Admission.Admitted → Sound s

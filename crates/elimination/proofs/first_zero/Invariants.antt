@@ -1,6 +1,6 @@
 -- `first_zero` meets its contract: none of the words before place j is 0.
 use mathlib.Core.Path.{◌≡◌}
-use Prim.Native.Nat.{◌-◌, ◌≤◌}
+use Prim.Native.Nat.{◌≤◌}
 use lib.Dec.{eqb}
 use lib.ListN.{get_or}
 use Rattle.paper.specs.First.{first, nowhere}
@@ -8,6 +8,3 @@ use Rattle.elimination.proofs.first_zero.Given as goal
 
 abbrev pub invariant-loop-j : goal.invariant-loop-j
 invariant-loop-j l = (l.j ≤ l.count) × (first l.j (λ i. eqb (get_or l.words i 0) 0) ≡ nowhere)
-
-abbrev pub decreases-loop-j : goal.decreases-loop-j
-decreases-loop-j l = l.count - l.j

@@ -17,5 +17,10 @@ loop-i-preserved c =
     let l = c.loop-i in
     let a = c.args in
     let step = reduces-taken a.words.now a.choices.now l.i a.x l.rest l.choice l.invariant.1 in
-    let pass = reduces-passed a.words.now a.choices.now l.i a.x l.rest l.choice l.invariant.1 in
-    (omega arith, elim c.if-smaller.branch [ then-smaller w ↦ rw (w.rest-is, w.choice-is) (step w.if-smaller.true) | else-smaller w ↦ rw (w.rest-is, w.choice-is) (pass w.if-smaller.false) ])
+    let pass = reduces-passed a.words.now a.choices.now l.i a.x l.rest l.choice l.invariant.1 in (
+      omega arith,
+      elim c.if-smaller.branch [
+        | then-smaller w ↦ rw (w.rest-is, w.choice-is) (step w.if-smaller.true)
+        | else-smaller w ↦ rw (w.rest-is, w.choice-is) (pass w.if-smaller.false)
+      ],
+    )

@@ -12,6 +12,3 @@ abbrev pub invariant-loop-v : goal.invariant-loop-v
 invariant-loop-v l =
     (l.v ≤ l.end) × (l.tried + length (weights l.n l.v (l.end - l.v)) < 2 ^ width)
     × (list.search (passes l.clear l.stirred l.y) 0 (weights l.n l.from (l.end - l.from)) ≡ list.search (passes l.clear l.stirred l.y) l.tried (weights l.n l.v (l.end - l.v)))
-
-abbrev pub decreases-loop-v : goal.decreases-loop-v
-decreases-loop-v l = l.end - l.v

@@ -1,27 +1,23 @@
 -- `write_gathered` meets its contract: 1 to 6, 16 and 13, then 14, then the slot is written.
-use mathlib.Core.Path.{◌≡◌, refl, ap, ◌∙◌}
+use mathlib.Core.Path.{refl, ap, ◌∙◌}
 use mathlib.Core.Bool.{Bool, ◌&&◌}
-use mathlib.Core.List.{List, []}
+use mathlib.Core.List.{List}
 use Prim.Native.Nat.{ℕ}
 use borrow.Author.Tests.{lt-ltb, le-ltb}
 use lib.Dec.{leb, ltb}
 use lib.ListN.{length}
-use Rattle.paper.specs.Page.{most_records, few_slots, paged, page_after_write}
-use Rattle.paper.specs.Refusals.{Told, answer, unless}
-use Rattle.paper.specs.Sheet.{Sheet, sheet}
+use Rattle.paper.specs.Page.{most_records, few_slots, page_after_write}
+use Rattle.paper.specs.Refusals.{Told, unless}
+use Rattle.paper.specs.Sheet.{sheet}
 use Rattle.rules.proofs.Rules.{unless-stop, unless-pass}
 use Rattle.page.specs.Steps.{puts_admitted, writes_with}
 use Rattle.rules.proofs.Stages.{told-refused, told-next}
-use Rattle.opening.proofs.Judging.{paged-stage, page-sound}
+use Rattle.opening.proofs.Judging.{paged-stage, paged-tested, page-sound}
 use Rattle.page.proofs.write_gathered.Goals as goal
 
 -- slots and records are few enough
 abbrev few : List ℕ → ℕ → Bool
 few page count = few_slots page && leb count most_records
-
--- what was told of sheet and page, by the definition's test
-as-few : (s : Sheet) (number : ℕ) {few tested : Bool} {told : Told} → few ≡ tested → told ≡ paged s number few (answer []) → told ≡ paged s number tested (answer [])
-as-few s number e q = q ∙ ap (λ (b : Bool). paged s number b (answer [])) e
 
 -- what is told by another name is what the page was left by
 abbrev after : List ℕ → ℕ → Told → List ℕ
@@ -32,7 +28,7 @@ unfolding writes_with
 returns-in-Refused c =
     let a = c.args in
     let s = sheet a.n a.k a.l a.rows.now in
-    let e = told-refused (paged-stage s a.number (few a.page.now a.count)) _ (as-few s a.number c.are_few.ensures c.admit.ensures) _
+    let e = told-refused (paged-stage s a.number (few a.page.now a.count)) _ (paged-tested s a.number c.are_few.ensures c.admit.ensures) _
     (unless (ltb a.slot (length a.page.now)) 14 (puts_admitted s a.g a.message)) c.in-Refused.is in
     record { result_value = e; page_after = ap (after a.page.now a.slot) e }
 
@@ -42,7 +38,7 @@ returns-then-page-at c =
     let a = c.args in
     let s = sheet a.n a.k a.l a.rows.now in
     let next = puts_admitted s a.g a.message in
-    let e = told-next (paged-stage s a.number (few a.page.now a.count)) _ (as-few s a.number c.are_few.ensures c.admit.ensures) c.in_default.is
+    let e = told-next (paged-stage s a.number (few a.page.now a.count)) _ (paged-tested s a.number c.are_few.ensures c.admit.ensures) c.in_default.is
     (unless (ltb a.slot (length a.page.now)) 14 next) (unless-stop 14 next (le-ltb _ _ c.if-page-at.true)) in
     record { result_value = e; page_after = ap (after a.page.now a.slot) e }
 
@@ -50,7 +46,7 @@ pub put-requires : goal.put-requires
 put-requires c =
     let a = c.args in
     let s = sheet a.n a.k a.l a.rows.now in
-    (page-sound s a.number (few a.page.now a.count) _ (as-few s a.number c.are_few.ensures c.admit.ensures) c.in_default.is, c.if-page-at.false)
+    (page-sound s a.number (few a.page.now a.count) _ (paged-tested s a.number c.are_few.ensures c.admit.ensures) c.in_default.is, c.if-page-at.false)
 
 pub returns : goal.returns
 unfolding writes_with
@@ -58,6 +54,6 @@ returns c =
     let a = c.args in
     let s = sheet a.n a.k a.l a.rows.now in
     let next = puts_admitted s a.g a.message in
-    let e = told-next (paged-stage s a.number (few a.page.now a.count)) _ (as-few s a.number c.are_few.ensures c.admit.ensures) c.in_default.is
+    let e = told-next (paged-stage s a.number (few a.page.now a.count)) _ (paged-tested s a.number c.are_few.ensures c.admit.ensures) c.in_default.is
     (unless (ltb a.slot (length a.page.now)) 14 next) (unless-pass 14 next (lt-ltb _ _ c.if-page-at.false) refl) in
     record { result_value = c.put.ensures.result_value ∙ e; page_after = c.put.ensures.page_after ∙ ap (after a.page.now a.slot) e }

@@ -13,9 +13,6 @@ abbrev pub invariant-loop-j : goal.invariant-loop-j
 invariant-loop-j l =
     (l.j ≤ length l.others) × (first l.j (λ m. not (eqb (product (get_or l.gs l.i 0) (get_or l.others m 0)) (wanted l.own l.i m))) ≡ nowhere)
 
-abbrev pub decreases-loop-j : goal.decreases-loop-j
-decreases-loop-j l = length l.others - l.j
-
 abbrev pub invariant-rows : goal.invariant-rows
 invariant-rows l = (l.i ≤ length l.gs) × (first l.i (off l.own l.gs l.others) ≡ nowhere)
 

@@ -51,7 +51,6 @@ loop-i-preserved c =
 
 pub returns : goal.returns
 returns c =
-    let c3 = c in
     let l = c.loop-i in
-    let a = c3.args in
+    let a = c.args in
     sym (l.invariant.2 ∙ ap (fitting a.most) (valued-end a.token.now l.i l.value c.loop-i-test.false) ∙ fitting-fits a.most l.value l.invariant.1)

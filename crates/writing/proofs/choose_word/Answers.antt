@@ -29,9 +29,10 @@ unfolding ◌⊕◌
 returns-then-base-levels-eq0 c =
     let a = c.args in
     let s = sheet a.n a.k a.l a.rows.now in
-    ap (λ (x : ℕ). answer (x ∷ 0 ∷ [])) (c.sum_of-base.ensures ∙ ap (λ (g : List ℕ). sum g a.message) c.part.ensures)
+    let base = c.sum_of-base.ensures ∙ ap (λ (g : List ℕ). sum g a.message) c.part.ensures in
+    ap (λ (x : ℕ). answer (x ∷ 0 ∷ [])) base
     ∙ base-chosen s a.message a.stuck a.levels c.requires.1
-    (ap (λ (x : ℕ). bit_and (x ⊕ a.levels) a.stuck) (sym (c.sum_of-base.ensures ∙ ap (λ (g : List ℕ). sum g a.message) c.part.ensures)) ∙ c.if-base-levels-eq0.true)
+    (ap (λ (x : ℕ). bit_and (x ⊕ a.levels) a.stuck) (sym base) ∙ c.if-base-levels-eq0.true)
 
 pub returns-in-Choice : goal.returns-in-Choice
 unfolding ◌⊕◌
@@ -39,13 +40,16 @@ returns-in-Choice c =
     let d = c.in-Choice.d in
     let a = c.args in
     let s = sheet a.n a.k a.l a.rows.now in
-    ap (λ (x : ℕ). answer (x ∷ d ∷ []))
-    (ap₂ ◌⊕◌ (c.sum_of-base.ensures ∙ ap (λ (g : List ℕ). sum g a.message) c.part.ensures) (c.sum_of.ensures ∙ ap (λ (g : List ℕ). sum g d) c.part-g0.ensures))
-    ∙ ap (chosen s a.message) (sym (ap solved c.in-Choice.is) ∙ found s a.message a.stuck a.levels _ _ (c.sum_of-base.ensures ∙ ap (λ (g : List ℕ). sum g a.message) c.part.ensures) c.part-g0.ensures c.requires.0.count-G0 c.requires.1 c.solve.ensures)
+    let base = c.sum_of-base.ensures ∙ ap (λ (g : List ℕ). sum g a.message) c.part.ensures in
+    let fits = found s a.message a.stuck a.levels _ _ base c.part-g0.ensures c.requires.0.count-G0 c.requires.1 c.solve.ensures in
+    ap (λ (x : ℕ). answer (x ∷ d ∷ [])) (ap₂ ◌⊕◌ base (c.sum_of.ensures ∙ ap (λ (g : List ℕ). sum g d) c.part-g0.ensures))
+    ∙ ap (chosen s a.message) (sym (ap solved c.in-Choice.is) ∙ fits)
 
 pub returns-in-None : goal.returns-in-None
 unfolding ◌⊕◌
 returns-in-None c =
     let a = c.args in
     let s = sheet a.n a.k a.l a.rows.now in
-    ap (chosen s a.message) (sym (ap solved c.in-None.is) ∙ found s a.message a.stuck a.levels _ _ (c.sum_of-base.ensures ∙ ap (λ (g : List ℕ). sum g a.message) c.part.ensures) c.part-g0.ensures c.requires.0.count-G0 c.requires.1 c.solve.ensures)
+    let base = c.sum_of-base.ensures ∙ ap (λ (g : List ℕ). sum g a.message) c.part.ensures in
+    let fits = found s a.message a.stuck a.levels _ _ base c.part-g0.ensures c.requires.0.count-G0 c.requires.1 c.solve.ensures in
+    ap (chosen s a.message) (sym (ap solved c.in-None.is) ∙ fits)
