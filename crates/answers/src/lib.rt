@@ -7,7 +7,7 @@ ghost use Rattle.told.specs.Telling.{tells};
 ghost use Rattle.answers.specs.Answers.{said, labelled, spoken, spaced, listed};
 
 use paper::Word;
-use text::{end_of, put, put_number, smaller};
+use text::{next_token, put, put_number};
 use told::Numbers;
 
 // Puts values behind their labels, which bars separate.
@@ -17,14 +17,12 @@ fn say_values(out: &mut [u8], at: usize, labels: &[u8], values: &[u64]) -> usize
     ensures upper_bound { result ≤ at + length labels.now + 20 * length values.now }
 {
     let mut to = at;
-    let mut from = 0;
-    let mut i = 0;
-    while i < values.len() {
-        let end = end_of(labels, from, b'|');
-        let named = put(out, to, &labels[from..end]);
-        to = put_number(out, named, values[i]);
-        from = smaller(labels.len(), end + 1);
-        i += 1;
+    let mut labels = labels;
+    for value in values {
+        let (label, rest) = next_token(labels, b'|');
+        let named = put(out, to, label);
+        to = put_number(out, named, *value);
+        labels = rest.unwrap_or(&[]);
     }
     to
 }
@@ -35,7 +33,7 @@ fn say_labels(out: &mut [u8], at: usize, labels: &[u8], values: &[u64]) -> usize
     ensures put { Put out.old at (said labels.now values.now) result out.new }
     ensures upper_bound { result ≤ at + length labels.now + 20 * length values.now }
 {
-    if values.len() == 0 {
+    if values.is_empty() {
         return put(out, at, labels);
     }
     say_values(out, at, labels, values)
@@ -47,16 +45,13 @@ pub fn say(out: &mut [u8], at: usize, labels: &[u8], t: Numbers) -> usize
     ensures put { Put out.old at (spoken labels.now (tells t)) result out.new }
     ensures upper_bound { result ≤ at + length labels.now + 100 }
 {
-    let count = smaller(t.count as usize, 3);
-    let values = [t.number as u64, t.a, t.b, t.c];
-    let end = 1 + count;
-    if t.kind == 0 {
-        return say_labels(out, at, labels, &values[1..end]);
+    let values = [u64::from(t.number), t.a, t.b, t.c];
+    let end = 1 + (t.count as usize).min(3);
+    match t.kind {
+        0 => say_labels(out, at, labels, &values[1..end]),
+        1 => say_labels(out, at, b"more tried | radius ", &values[1..end]),
+        _ => say_labels(out, at, b"refused | ", &values[..end]),
     }
-    if t.kind == 1 {
-        return say_labels(out, at, b"more tried | radius ", &values[1..end]);
-    }
-    say_labels(out, at, b"refused | ", &values[..end])
 }
 
 // Puts numbers, each behind a space.
@@ -66,11 +61,9 @@ fn say_items(out: &mut [u8], at: usize, xs: &[Word]) -> usize
     ensures upper_bound { result ≤ at + 21 * length xs.now }
 {
     let mut to = at;
-    let mut i = 0;
-    while i < xs.len() {
+    for x in xs {
         let next = put(out, to, b" ");
-        to = put_number(out, next, xs[i] as u64);
-        i += 1;
+        to = put_number(out, next, *x as u64);
     }
     to
 }

@@ -2,13 +2,15 @@
 -- For the rules that a built sheet keeps, and for the tables of a sheet. Assumes nothing.
 use mathlib.Core.Path.{◌≡◌, sym, ap, ap₂, ◌∙◌, subst}
 use Prim.Native.Nat.{ℕ, ◌+◌, ◌*◌, ◌/◌, ◌%◌, ◌^◌, ◌≤◌, ◌<◌}
-use native.Mathlib.Nat.{add-mul, mul_assoc, add_assoc, div-one, mod-eq_of_lt, mul-le-mul_left, mul-le-mul_right}
+use native.Mathlib.Nat.{zero-mul, add-mul, mul_assoc, add_assoc, div-one, div-eq_of_lt, mod-eq_of_lt, lt_of_lt_of_le, mul-le-mul_left, mul-le-mul_right}
 use native.Mathlib.Decide.{dec_lt}
 use native.Mathlib.Omega.{arith}
 use lib.Arith.{digits_lt}
 use lib.Pow.{pow_pos, pow_mono, high, low, split, shr-shr, pow-add}
 use lib.Bits.{bit_and, and_block, and_lt}
 use lib.Count.{ones_cat}
+use Rattle.std.proofs.Common.{Option, Some, None, SomeIff}
+use Rattle.std.specs.Option.{unwrap_or}
 use Rattle.paper.specs.Words.{cell, product}
 use Rattle.paper.specs.Tables.{joined, cells}
 use Rattle.words.proofs.Cells.{cell-low}
@@ -101,9 +103,22 @@ pub le-raised : (x k : ℕ) → x ≤ x * 2 ^ k
 le-raised x k = omega (arith, mul-le-mul_left x (pow_pos k))
 
 -- a word that is not 0 is raised by less than the width
-pub raised_by : (x by w : ℕ) → 0 < x → x * 2 ^ by < 2 ^ w → by < w
+raised_by : (x by w : ℕ) → 0 < x → x * 2 ^ by < 2 ^ w → by < w
 raised_by x by w p h = go (dec_lt by w)
   where
     go : Dec (by < w) → by < w
     go (yes q) = q
     go (no q) = absurd (omega (arith, pow_mono {i = w} {j = by} (omega arith), mul-le-mul_right (2 ^ by) p))
+
+-- a checked shift up, or 0: nothing is lost of what fits, and only 0 may be raised by the width or more
+pub shifted_up : (x by w y : ℕ) (r : Option ℕ) → x * 2 ^ by < 2 ^ w → SomeIff r (by < w) (x * 2 ^ by % 2 ^ w) → y ≡ unwrap_or r 0 → y ≡ x * 2 ^ by
+shifted_up x by w y (Some z) h is e = e ∙ is.1 ∙ mod-eq_of_lt h
+shifted_up x by w y None h is e =
+    let none : 0 < x → ⊥ = λ p. is (raised_by x by w p h) in
+    let zero : x ≡ 0 = omega arith in
+    e ∙ sym (rw (zero, zero-mul))
+
+-- a checked shift down, or 0: no cell is at the width or above
+pub shifted_down : (x by w y : ℕ) (r : Option ℕ) → x < 2 ^ w → SomeIff r (by < w) (x / 2 ^ by) → y ≡ unwrap_or r 0 → y ≡ x / 2 ^ by
+shifted_down x by w y (Some z) h is e = e ∙ is.1
+shifted_down x by w y None h is e = e ∙ sym (div-eq_of_lt (lt_of_lt_of_le h (pow_mono (omega arith))))

@@ -8,12 +8,12 @@ ghost use Rattle.paper.specs.Words.{width};
 use paper::{WIDTH, Word};
 use words::cell_of;
 
-// x with `by` cells below it. A word that is 0 may be raised by any number of cells: so no shift is by the width.
+// x with `by` cells below it. A word that is 0 may be raised by any number of cells, also by the width or more, where a plain shift is refused.
 fn raised(x: Word, by: u32) -> Word
     requires { x * 2 ^ by < 2 ^ width }
     ensures { result ≡ x * 2 ^ by }
 {
-    if x == 0 { 0 } else { x << by }
+    x.checked_shl(by).unwrap_or(0)
 }
 
 // The row [a b c].
@@ -28,14 +28,15 @@ pub fn join(k: u32, l: u32, a: Word, b: Word, c: Word) -> Word
 fn first_of(count: u32, x: Word) -> Word
     ensures { result ≡ x % 2 ^ count }
 {
+    // By a test: `1.checked_shl(count)` in a chain needs a closure for the remainder, and is no plainer.
     if count < WIDTH { x % cell_of(count) } else { x }
 }
 
-// The cells of x from `from` on.
+// The cells of x from `from` on: none at the width or above.
 fn last_of(from: u32, x: Word) -> Word
     ensures { result ≡ x / 2 ^ from }
 {
-    if from < WIDTH { x >> from } else { 0 }
+    x.checked_shr(from).unwrap_or(0)
 }
 
 // The cells of x from `from` on, `count` of them.
@@ -49,11 +50,5 @@ pub fn cells_of(from: u32, count: u32, x: Word) -> Word
 pub fn is_tabled(k: u32, l: u32, p: usize, r: usize, q: usize) -> bool
     ensures { result ≡ tabled k l p r q }
 {
-    if p != k as usize {
-        return false;
-    }
-    if r != l as usize {
-        return false;
-    }
-    q == l as usize
+    p == k as usize && r == l as usize && q == l as usize
 }

@@ -13,14 +13,13 @@ use Rattle.paper.specs.Sheet.{sheet, shaped}
 use Rattle.paper.specs.Tables.{stray_in}
 use Rattle.paper.specs.Words.{width}
 use Rattle.words.specs.Places.{as_first}
-use Rattle.words.specs.declared.Place.{Place}
-use Rattle.words.specs.declared.Place.TheVariants.{At}
+use Rattle.std.proofs.Common.{Option, Some}
 use Rattle.words.proofs.Firsts.{first-all, first-at}
 use Rattle.sheet.specs.Sound.{Shaped}
 use Rattle.blocks.specs.Counts.{Counted}
 
 -- a place that was found is one of the rows
-pub found_lt : {p : Place} (test : ℕ → Bool) (n : ℕ) {i : ℕ} → as_first p ≡ first n test → p ≡ At i → i < n
+pub found_lt : {p : Option ℕ} (test : ℕ → Bool) (n : ℕ) {i : ℕ} → as_first p ≡ first n test → p ≡ Some i → i < n
 found_lt test n {i} e h = (first-at test n i (sym e ∙ ap as_first h)).0
 
 -- no row with stray bits: each has as many columns as the table

@@ -1,2 +1,3 @@
--- The rows of a built sheet, one by one.
+-- Tables as one record, and the rows of a built sheet, one by one.
+pub mod Handed
 pub mod Rows

@@ -13,22 +13,17 @@ use paper::Word;
 use std::io;
 use std::io::{Error, Read, Write};
 use std::process::ExitCode;
-use streams::{Got, end_well, read_piece, tell_failure, write_all};
+use streams::{end_well, read_piece, tell_failure, write_all};
 use talk::take_step;
 use text::put_named;
 
-// The number after n; the last one stays.
-fn one_more(n: u64) -> u64 {
-    if n == u64::MAX { n } else { n + 1 }
-}
-
-// Writes the answer to a line, if it gets one, and says how many answers were written so far.
-fn write_answer<W: Write>(to: &mut W, bytes: &[u8], answers: u64) -> io::Result<u64> {
-    if bytes.len() == 0 {
-        return Ok(answers);
+// Writes the answer to a line, if it gets one, and counts it.
+fn write_answer<W: Write>(to: &mut W, bytes: &[u8], answers: &mut u64) -> io::Result<()> {
+    if !bytes.is_empty() {
+        write_all(to, bytes)?;
+        *answers = answers.saturating_add(1);
     }
-    write_all(to, bytes)?;
-    Ok(one_more(answers))
+    Ok(())
 }
 
 // Tells that an answer could not be written, and how many were.
@@ -44,73 +39,37 @@ fn tell_lost<E: Write>(rt: &impl Alloc, errors: &mut E, answers: u64, error: &Er
     tell_failure(rt, errors, &text[..end], error);
 }
 
-// What a piece of the input leaves: whether all answers were written, how many bytes are held, and how many answers were written so far.
-#[derive(Drop)]
-struct Piece {
-    written: io::Result<()>,
-    held: usize,
-    answers: u64,
-}
-
-// Answers each line that ends in a piece of the input, one line after the other: its answer is written before the next is looked at.
+// Answers each line that ends in a piece of the input, one line after the other: its answer is written before the next is looked at. How many bytes
+// are held, and how many answers were written so far, is left in `held` and `answers`.
 fn take_in<W: Write>(
     to: &mut W,
     input: &[u8],
     line: &mut [u8],
-    held: usize,
+    held: &mut usize,
     ns: &mut [Word],
     out: &mut [u8],
-    answers: u64,
-) -> Piece
-    requires held_in_bounds { held ≤ length line.old }
-    requires whole { Whole 10 (take held line.old) }
+    answers: &mut u64,
+) -> io::Result<()>
+    requires held_in_bounds { held.old ≤ length line.old }
+    requires whole { Whole 10 (take held.old line.old) }
     requires rooms { Rooms line.old ns.old out.old }
-    ensures held_after_in_bounds { result.held ≤ length line.new }
-    ensures whole_after { Whole 10 (take result.held line.new) }
-    ensures answered { IsOk result.written → Answered (take held line.old) input.now (take result.held line.new) [] }
+    ensures held_after_in_bounds { held.new ≤ length line.new }
+    ensures whole_after { Whole 10 (take held.new line.new) }
+    ensures answered { IsOk result → Answered (take held.old line.old) input.now (take held.new line.new) [] }
 {
-    let mut from = 0;
-    let mut held = held;
-    let mut answers = answers;
-    while from < input.len() {
-        let s = take_step(input, from, line, held, ns, out);
-        held = s.held;
-        from = s.from;
-        let at = s.at;
-        match write_answer(to, &out[..at], answers) {
-            Ok(so_far) => answers = so_far,
-            Err(error) => {
-                return Piece {
-                    written: Err(error),
-                    held,
-                    answers,
-                };
-            }
-        }
+    let mut rest = input;
+    while !rest.is_empty() {
+        let step = take_step(rest, line, *held, ns, out);
+        *held = step.held;
+        rest = step.rest;
+        write_answer(to, &out[..step.at], answers)?;
     }
-    Piece {
-        written: Ok(()),
-        held,
-        answers,
-    }
-}
-
-// Reads a piece of the input.
-fn read_input<R: Read, E: Write>(
-    rt: &impl Alloc,
-    from: &mut R,
-    errors: &mut E,
-    input: &mut [u8],
-) -> Got
-    requires { 0 < length input.old }
-    ensures { result.count ≤ length input.new }
-{
-    read_piece(rt, from, errors, input, b"console: standard input")
+    Ok(())
 }
 
 // Reads standard input to its end, piece by piece, and answers its lines; says whether all was read and written. Where a read or a write fails it
-// stops, and answers nothing of what it holds. A proved loop has to end, and nothing says that the input does: so it counts its turns down, from
-// a number that no run uses up.
+// stops, and answers nothing of what it holds. A proved loop has to end, and nothing says that the input does: so it counts its turns, up to a number
+// that no run uses up.
 fn run<R: Read, W: Write, E: Write>(
     rt: &impl Alloc,
     from: &mut R,
@@ -126,21 +85,18 @@ fn run<R: Read, W: Write, E: Write>(
 {
     let mut held = 0;
     let mut answers: u64 = 0;
-    let mut turns = u64::MAX;
-    while turns > 0 {
-        let got = read_input(rt, from, errors, input);
-        let count = got.count;
-        let piece = take_in(to, &input[..count], line, held, ns, out, answers);
-        held = piece.held;
-        answers = piece.answers;
-        if let Err(error) = piece.written {
+    for _ in 0..u64::MAX {
+        let Some(piece) = read_piece(rt, from, errors, input, b"console: standard input") else {
+            return false;
+        };
+        let count = piece.count;
+        if let Err(error) = take_in(to, &input[..count], line, &mut held, ns, out, &mut answers) {
             tell_lost(rt, errors, answers, &error);
             return false;
         }
-        if got.last {
-            return got.good;
+        if piece.last {
+            return true;
         }
-        turns -= 1;
     }
     false
 }

@@ -1,4 +1,3 @@
 -- What the private functions of the elimination say of the rows that they keep, and why a target may have no choice.
 pub mod Kept
-pub mod Solved
 pub mod Evidence

@@ -11,7 +11,7 @@ ghost use Rattle.paper.specs.Plate.{measures_d0, measures_d1};
 ghost use Rattle.paper.specs.WholePage.{whole_writes, whole_page, whole_notes};
 ghost use Rattle.told.specs.Telling.{tells};
 
-use paper::{StuckCell, Word};
+use paper::{Sheet, StuckCell, Word};
 use told::Numbers;
 
 // Admits a sheet: `store::admit`.
@@ -19,7 +19,7 @@ use told::Numbers;
 pub extern "C" fn namestore_admit(n: u32, k: u32, l: u32, rows: &[Word]) -> Numbers
     ensures { tells result ≡ admits (sheet n k l rows.now) }
 {
-    told::of_admission(store::admit(n, k, l, rows))
+    Numbers::from(store::admit(&Sheet { n, k, l, rows }))
 }
 
 // Writes a message around the stuck cells: `store::write`.
@@ -35,7 +35,7 @@ pub extern "C" fn namestore_write(
 ) -> Numbers
     ensures { tells result ≡ writes (sheet n k l rows.now) message stuck levels }
 {
-    told::of_written(store::write(n, k, l, rows, message, stuck, levels))
+    Numbers::from(store::write(&Sheet { n, k, l, rows }, message, stuck, levels))
 }
 
 // Reads a word at a radius: `store::read`.
@@ -50,7 +50,7 @@ pub extern "C" fn namestore_read(
 ) -> Numbers
     ensures { tells result ≡ reads (sheet n k l rows.now) y radius }
 {
-    told::of_reading(store::read(n, k, l, rows, y, radius))
+    Numbers::from(store::read(&Sheet { n, k, l, rows }, y, radius))
 }
 
 // Measures d0 up to a cap: `store::measure_d0`.
@@ -58,7 +58,7 @@ pub extern "C" fn namestore_read(
 pub extern "C" fn namestore_d0(n: u32, k: u32, l: u32, rows: &[Word], cap: u32) -> Numbers
     ensures { tells result ≡ measures_d0 (sheet n k l rows.now) cap }
 {
-    told::of_d0(store::measure_d0(n, k, l, rows, cap))
+    Numbers::from(store::measure_d0(&Sheet { n, k, l, rows }, cap))
 }
 
 // Measures d1 up to a cap: `store::measure_d1`.
@@ -66,7 +66,7 @@ pub extern "C" fn namestore_d0(n: u32, k: u32, l: u32, rows: &[Word], cap: u32) 
 pub extern "C" fn namestore_d1(n: u32, k: u32, l: u32, rows: &[Word], cap: u32) -> Numbers
     ensures { tells result ≡ measures_d1 (sheet n k l rows.now) cap }
 {
-    told::of_d1(store::measure_d1(n, k, l, rows, cap))
+    Numbers::from(store::measure_d1(&Sheet { n, k, l, rows }, cap))
 }
 
 // Writes a message to each slot of a page and notes each slot: `whole::page_write_all`.
@@ -86,6 +86,6 @@ pub extern "C" fn namestore_page_write_all(
     ensures page_after { page.new ≡ whole_page (sheet n k l rows.now) number page.old records.now messages.now notes.old }
     ensures notes_after { notes.new ≡ whole_notes (sheet n k l rows.now) number page.old records.now messages.now notes.old }
 {
-    let answer = whole::page_write_all(n, k, l, rows, number, page, records, messages, notes);
-    told::of_outcome(answer)
+    let sheet = Sheet { n, k, l, rows };
+    Numbers::from(whole::page_write_all(&sheet, number, page, records, messages, notes))
 }

@@ -1,3 +1,3 @@
--- The laws of records that are held by value: an array of them in a local, and what one record more changes in a run of slots.
+-- The laws of an array of records in a local, and of a run of slots: what one record more changes in what its slots gather to.
 pub mod Parts
 pub mod Passes

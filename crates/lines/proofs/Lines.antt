@@ -2,17 +2,17 @@
 -- The numbers of a call stand where the shape of its verb has them (`asked-stands`): that is what a verb may count on.
 use mathlib.Core.Path.{◌≡◌, refl, sym, ap, ◌∙◌, subst}
 use mathlib.Core.Bool.{Bool, true, false, cond}
-use mathlib.Core.Option.{Option, none, some}
+use Rattle.std.specs.Prelude.{Option, Some, None, bytes_eq}
 use mathlib.Core.List.{List, [], ◌∷◌}
 use Prim.Native.Nat.{ℕ, zero, suc, ◌+◌, ◌-◌, ◌≤◌, ◌<◌}
 use native.Mathlib.Decide.{dec_le, ℕ_discrete}
 use native.Mathlib.Omega.{arith}
 use lib.Dec.{eqb, leb}
-use lib.ListN.{length, get_or, take, drop, length-take}
+use lib.ListN.{length, get_or, take, length-take}
 use lib.Seq.{take_all, get_or-take}
 use borrow.Author.Tests.{eq-eqb, ne_eqb, le-leb, lt-leb}
-use Rattle.text.specs.Tokens.{up_to, cut, same}
-use Rattle.text.proofs.Tokens.{cut_at, cut-first}
+use Rattle.text.specs.Tokens.{cut}
+use Rattle.text.proofs.Pieces.{cut-some}
 use Rattle.lines.specs.Shapes.{fill, Stands}
 use Rattle.lines.specs.Lines.{silent, unknown, call, Found, nowhere, at, lookup, shape_at, called, known_at, spelled, is_silent, comes, trimmed, calling, asked, storing, asked_in, room_line}
 use Rattle.lines.proofs.Shapes.{fill-stands}
@@ -32,12 +32,12 @@ module _ (name : List ℕ) (v : ℕ) where
 
   module _ (x shape : List ℕ) (rest : List (List ℕ)) where
     -- the entry of that name
-    pub lookup-same : same x name ≡ true → lookup name v (x ∷ shape ∷ rest) ≡ at v shape
+    pub lookup-same : bytes_eq x name ≡ true → lookup name v (x ∷ shape ∷ rest) ≡ at v shape
     unfolding lookup
     lookup-same e = rw e
 
     -- an entry of another name is passed by
-    pub lookup-other : same x name ≡ false → lookup name v (x ∷ shape ∷ rest) ≡ lookup name (v + 1) rest
+    pub lookup-other : bytes_eq x name ≡ false → lookup name v (x ∷ shape ∷ rest) ≡ lookup name (v + 1) rest
     unfolding lookup
     lookup-other e = rw e
 
@@ -54,22 +54,22 @@ module _ {A : Type 0} (other : A) (known : ℕ → List ℕ → List (List ℕ) 
   comes-empty table [] h = refl
   comes-empty table (b ∷ bs) h = absurd (omega arith)
 
-  module _ (table line : List ℕ) (some : 0 < length line) where
+  module _ (table line : List ℕ) (more : 0 < length line) where
     -- so is a comment
     pub comes-comment : get_or line 0 0 ≡ 35 → comes other known nothing table line ≡ nothing
     unfolding comes
-    comes-comment e = rw (is_silent-of line some ∙ eq-eqb (get_or line 0 0) 35 e)
+    comes-comment e = rw (is_silent-of line more ∙ eq-eqb (get_or line 0 0) 35 e)
 
     module _ (n : get_or line 0 0 ≡ 35 → ⊥) where
       -- a line that is too long is no call
       pub comes-long : room_line < length line → comes other known nothing table line ≡ other
       unfolding comes
-      comes-long h = rw (is_silent-of line some ∙ ne_eqb (get_or line 0 0) 35 n, lt-leb (length line) room_line h)
+      comes-long h = rw (is_silent-of line more ∙ ne_eqb (get_or line 0 0) 35 n, lt-leb (length line) room_line h)
 
       -- any other line is what its tokens spell
       pub comes-spelled : length line ≤ room_line → comes other known nothing table line ≡ spelled other known table (cut 32 line)
       unfolding comes
-      comes-spelled h = rw (is_silent-of line some ∙ ne_eqb (get_or line 0 0) 35 n, le-leb (length line) room_line h)
+      comes-spelled h = rw (is_silent-of line more ∙ ne_eqb (get_or line 0 0) 35 n, le-leb (length line) room_line h)
 
 -- what `parse_trimmed` asks of a line, in turn
 pub ruleset line_cases = (comes-empty, comes-comment, comes-long, comes-spelled)
@@ -107,13 +107,16 @@ pub trimmed-empty : (line : List ℕ) → length line ≡ 0 → line ≡ trimmed
 trimmed-empty [] h = refl
 trimmed-empty (b ∷ bs) h = absurd (omega arith)
 
--- the same of the last byte, wherever it stands: what `trimmed_end` takes off, and what it leaves
+-- the same of the last byte, wherever it stands: what `trimmed` takes off, and what it leaves
 module _ (line : List ℕ) where
-  pub trimmed_off : 0 < length line → get_or line (length line - 1) 0 ≡ 13 → take (length line - 1) line ≡ trimmed line
-  trimmed_off h e = trimmed-return line (length line - 1) (omega arith) e
+  pub trimmed-off : 0 < length line → get_or line (length line - 1) 0 ≡ 13 → take (length line - 1) line ≡ trimmed line
+  trimmed-off h e = trimmed-return line (length line - 1) (omega arith) e
 
-  pub trimmed_kept : 0 < length line → (get_or line (length line - 1) 0 ≡ 13 → ⊥) → take (length line) line ≡ trimmed line
-  trimmed_kept h n = take_all (length line) line (omega arith) ∙ trimmed-same line (length line - 1) (omega arith) n
+  pub trimmed-kept : 0 < length line → (get_or line (length line - 1) 0 ≡ 13 → ⊥) → line ≡ trimmed line
+  trimmed-kept h n = trimmed-same line (length line - 1) (omega arith) n
+
+-- what is taken off a line, in turn
+pub ruleset trims = (trimmed-empty, trimmed-off, trimmed-kept)
 
 -- no more than a byte is taken off
 trimmed-length : (line : List ℕ) → length line ≤ length (trimmed line) + 1
@@ -165,22 +168,18 @@ module _ {A : Type 0} (other : A) (known : ℕ → List ℕ → List (List ℕ) 
   spelled-call table verb t ts = refl
 
   -- the verb up to the first space, and the tokens behind it
-  pub spelled-called : (table line : List ℕ) (e : ℕ) → e ≡ 0 + length (up_to 32 line) → e < length line
-      → spelled other known table (cut 32 line) ≡ known_at other known (lookup (take e line) 0 (cut 32 table)) (cut 32 (drop (e + 1) line))
-  spelled-called table line e ends more =
-      let next = cut_at 32 line 0 e (omega arith) ends more in
-      let rest = drop (e + 1) line in
-      let first = cut-first 32 rest 0 (0 + length (up_to 32 rest)) (omega arith) refl in
-      ap (spelled other known table) (next ∙ ap (λ (ts : List (List ℕ)). take (e - 0) line ∷ ts) first.1)
-      ∙ spelled-call table (take (e - 0) line) (take (0 + length (up_to 32 rest) - 0) rest) first.0
-      ∙ ap (known_at other known (lookup (take (e - 0) line) 0 (cut 32 table))) (sym first.1)
-      ∙ ap (λ (n : ℕ). known_at other known (lookup (take n line) 0 (cut 32 table)) (cut 32 rest)) (let k : e - 0 ≡ e = omega arith in k)
+  pub spelled-called : (table line verb rest : List ℕ) → cut 32 line ≡ verb ∷ cut 32 rest
+      → spelled other known table (cut 32 line) ≡ known_at other known (lookup verb 0 (cut 32 table)) (cut 32 rest)
+  spelled-called table line verb rest e =
+      let first = cut-some 32 rest in
+      ap (spelled other known table) (e ∙ ap (λ (ts : List (List ℕ)). verb ∷ ts) first.2) ∙ spelled-call table verb first.0 first.1
+      ∙ ap (known_at other known (lookup verb 0 (cut 32 table))) (sym first.2)
 
 -- ---- the numbers of a call stand where the shape of its verb has them
 
-called-some : (v w : ℕ) (m : Option (List ℕ)) (ns : List ℕ) → called v m ≡ call w ns → (v ≡ w) × (m ≡ some ns)
-called-some v w none ns e = let z : ◌≡◌ {A = ℕ} 0 1 = cc in absurd (omega arith)
-called-some v w (some xs) ns e = (cc, ap some (let k : xs ≡ ns = cc in k))
+called-some : (v w : ℕ) (m : Option (List ℕ)) (ns : List ℕ) → called v m ≡ call w ns → (v ≡ w) × (m ≡ Some ns)
+called-some v w None ns e = let z : ◌≡◌ {A = ℕ} 0 1 = cc in absurd (omega arith)
+called-some v w (Some xs) ns e = (cc, ap Some (let k : xs ≡ ns = cc in k))
 
 nowhere-not : {v : ℕ} {s : List ℕ} → nowhere ≡ at v s → ⊥
 nowhere-not e = let z : ◌≡◌ {A = ℕ} 0 1 = cc in omega arith
@@ -190,7 +189,7 @@ lookup-shape : (name : List ℕ) (v u : ℕ) (table : List (List ℕ)) (shape : 
 unfolding lookup
 lookup-shape name v u [] shape e = absurd (nowhere-not e)
 lookup-shape name v u (x ∷ []) shape e = absurd (nowhere-not e)
-lookup-shape name v u (x ∷ s ∷ rest) shape e = go (same x name) e (lookup-shape name (v + 1) u rest shape)
+lookup-shape name v u (x ∷ s ∷ rest) shape e = go (bytes_eq x name) e (lookup-shape name (v + 1) u rest shape)
   where
     go : (b : Bool) → cond b (at v s) (lookup name (v + 1) rest) ≡ at u shape
         → (lookup name (v + 1) rest ≡ at u shape → (v + 1 ≤ u) × (shape_at rest (u - (v + 1)) ≡ shape))

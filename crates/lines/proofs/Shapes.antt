@@ -1,71 +1,26 @@
 -- Shapes as they are read, letter by letter, and the numbers that fit them.
--- `fill` cites the first parts; then comes where each number stands (`fill-stands`), and what the numbers of a record are (`records-fit`).
-use mathlib.Core.Path.{◌≡◌, refl, sym, ap, ap₂, ◌∙◌, subst}
+-- `fill` cites the first part; then comes where each number stands (`fill-stands`), and what the numbers of a record are (`records-fit`).
+use mathlib.Core.Path.{◌≡◌, refl, sym, ap, ◌∙◌, subst}
 use mathlib.Core.Bool.{Bool, true, false, cond}
-use mathlib.Core.Option.{Option, none, some}
+use Rattle.std.specs.Prelude.{Option, Some, None, is_some, slice_get}
+use Rattle.std.proofs.lemmas.Option.{none-some, same_Some}
 use mathlib.Core.List.{List, [], ◌∷◌, ◌++◌, append_assoc}
 use Prim.Native.Nat.{ℕ, zero, suc, ◌+◌, ◌-◌, ◌*◌, ◌%◌, ◌^◌, ◌≤◌, ◌<◌}
 use native.Mathlib.Nat.{add-zero, zero-add}
 use native.Mathlib.Numerals.{add-one, unary_clauses}
-use native.Mathlib.Decide.{dec_lt, ℕ_discrete}
+use native.Mathlib.Decide.{dec_lt}
 use native.Mathlib.Omega.{arith}
 use lib.Dec.{eqb}
-use lib.ListN.{length, get_or, take, drop, set, length-append, length-drop, drop_of_length-le}
+use lib.ListN.{length, get_or, take, drop, set, length-drop, drop_of_length-le}
 use lib.Seq.{drop-drop, get_or-drop, take-suc-set, drop-cons}
-use borrow.Author.Tests.{eq-eqb, ne_eqb, eqb-true, eqb-false}
-use Rattle.text.specs.declared.Number.{Number}
+use borrow.Author.Tests.{eq-eqb}
 use Rattle.text.specs.Numerals.{numeral}
 use Rattle.text.proofs.Numerals.{numeral-most}
 use Rattle.lines.specs.Shapes.{most_of, items_of, next_of, item_of, items, unrolled, joined, before, fill, stored, filled, Fits, Records, Stands}
 
 -- ---- the letters that are to come
 
-length-items : (wide : Bool) (left : ℕ) → length (items wide left) ≡ left
-length-items wide zero = refl
-length-items wide (suc left) = ap suc (length-items wide left)
-
--- the items that are to come, and the letters
-pub unread-length : (wide : Bool) (left at : ℕ) (shape : List ℕ) → length (items wide left ++ drop at shape) ≡ left + (length shape - at)
-unread-length wide left at shape =
-    length-append (items wide left) (drop at shape) ∙ ap₂ (λ (a b : ℕ). a + b) (length-items wide left) (length-drop at shape)
-
-module _ (wide : Bool) (left at : ℕ) (shape : List ℕ) where
-  -- while an item is to come the shape is not read
-  pub read-item : (left ≡ 0 → ⊥) → eqb left 0 ≡ eqb (length (items wide left ++ drop at shape)) 0
-  read-item n =
-      let more : length (items wide left ++ drop at shape) ≡ 0 → ⊥ = λ e. n (omega (arith, unread-length wide left at shape)) in
-      ne_eqb left 0 n ∙ sym (ne_eqb (length (items wide left ++ drop at shape)) 0 more)
-
-  -- with no item to come it is read at its last letter
-  pub read-shape : left ≡ 0 → at ≤ length shape → eqb at (length shape) ≡ eqb (length (items wide left ++ drop at shape)) 0
-  read-shape h k = go (ℕ_discrete at (length shape))
-    where
-      left_over : length (items wide left ++ drop at shape) ≡ left + (length shape - at)
-      left_over = unread-length wide left at shape
-
-      go : Dec (at ≡ length shape) → eqb at (length shape) ≡ eqb (length (items wide left ++ drop at shape)) 0
-      go (yes e) = eq-eqb at (length shape) e ∙ sym (eq-eqb (length (items wide left ++ drop at shape)) 0 (omega (arith, left_over)))
-      go (no n) =
-          ne_eqb at (length shape) n ∙ sym (ne_eqb (length (items wide left ++ drop at shape)) 0 (λ e. n (omega (arith, left_over))))
-
--- a test for the end of a shape
-pub none_left : {b : Bool} (u : List ℕ) → b ≡ eqb (length u) 0 → b ≡ true → length u ≡ 0
-none_left u e t = eqb-true (length u) 0 (sym e ∙ t)
-
--- a letter is left
-pub some_left : {b : Bool} (u : List ℕ) → b ≡ eqb (length u) 0 → b ≡ false → 0 < length u
-some_left u e t = omega (arith, eqb-false (length u) 0 (sym e ∙ t))
-
--- the next letter is that of an item
-pub letter-item : (wide : Bool) (left : ℕ) (rest : List ℕ) → 0 < left → get_or (items wide left ++ rest) 0 0 ≡ item_of wide left
-letter-item wide zero rest h = absurd (omega arith)
-letter-item wide (suc n) rest h = refl
-
--- or the next one of the shape
-pub letter-shape : (wide : Bool) (left at : ℕ) (shape : List ℕ) → left ≡ 0 → get_or (items wide left ++ drop at shape) 0 0 ≡ get_or shape at 0
-letter-shape wide zero at shape h = get_or-drop at shape 0 0 ∙ ap (λ (i : ℕ). get_or shape i 0) (add-zero at)
-letter-shape wide (suc n) at shape h = absurd (omega arith)
-
+-- no items follow an item
 item-bare : (wide : Bool) (left x : ℕ) → unrolled (item_of wide left) x ≡ []
 item-bare true left x = refl
 item-bare false left x = go (eqb (left % 3) 1)
@@ -74,110 +29,96 @@ item-bare false left x = go (eqb (left % 3) 1)
     go true = refl
     go false = refl
 
--- behind an item there is one item less
-pub passed-item : (wide : Bool) (left : ℕ) (rest : List ℕ) (x : ℕ) → 0 < left
-    → items wide (left - 1) ++ rest ≡ unrolled (get_or (items wide left ++ rest) 0 0) x ++ drop 1 (items wide left ++ rest)
-passed-item wide zero rest x h = absurd (omega arith)
-passed-item wide (suc n) rest x h =
-    let e : suc n - 1 ≡ n = omega arith in
-    ap (λ (k : ℕ). items wide k ++ rest) e ∙ sym (ap (λ (l : List ℕ). l ++ (items wide n ++ rest)) (item-bare wide (suc n) x))
-
--- behind a letter come its items
-pub passed-letter : (wide : Bool) (left at : ℕ) (shape : List ℕ) (x : ℕ) → left ≡ 0
-    → unrolled (get_or shape at 0) x ++ drop (at + 1) shape
-    ≡ unrolled (get_or (items wide left ++ drop at shape) 0 0) x ++ drop 1 (items wide left ++ drop at shape)
-passed-letter wide zero at shape x h =
-    ap₂ (λ (l : ℕ) (rest : List ℕ). unrolled l x ++ rest) (sym (letter-shape wide zero at shape refl)) (sym (drop-drop 1 at shape))
-passed-letter wide (suc n) at shape x h = absurd (omega arith)
-
 -- ---- the numbers, one token after the other
 
 -- the numbers that were read, and those that are to come
 abbrev pub after : List ℕ → Option (List ℕ) → Option (List ℕ)
-after xs none = none
-after xs (some ys) = some (xs ++ ys)
-
--- nothing was read before
-pub after_nothing : (ns : Option (List ℕ)) → after [] ns ≡ ns
-after_nothing none = refl
-after_nothing (some ys) = refl
+after xs None = None
+after xs (Some ys) = Some (xs ++ ys)
 
 after_one : (xs : List ℕ) (x : ℕ) (ns : Option (List ℕ)) → after xs (joined x ns) ≡ after (xs ++ (x ∷ [])) ns
-after_one xs x none = refl
-after_one xs x (some ys) = ap some (sym (append_assoc xs (x ∷ []) ys))
+after_one xs x None = refl
+after_one xs x (Some ys) = ap Some (sym (append_assoc xs (x ∷ []) ys))
 
 -- no letter is left for a token
-pub fill-over : (u : List ℕ) (t : List ℕ) (ts : List (List ℕ)) → length u ≡ 0 → fill u (t ∷ ts) ≡ none
+pub fill-over : (u t : List ℕ) (ts : List (List ℕ)) → slice_get u 0 ≡ None → fill u (t ∷ ts) ≡ None
 unfolding fill
-fill-over [] t ts h = refl
-fill-over (l ∷ u) t ts h = absurd (omega arith)
+fill-over [] t ts e = refl
+fill-over (l ∷ u) t ts e = absurd (none-some l (sym e))
 
 -- a token for the next letter
-pub fill-next : (u t : List ℕ) (ts : List (List ℕ)) → 0 < length u
-    → fill u (t ∷ ts) ≡ before (numeral (most_of (get_or u 0 0)) t) (λ x. fill (unrolled (get_or u 0 0) x ++ drop 1 u) ts)
+pub fill-next : (u t : List ℕ) (ts : List (List ℕ)) (letter : ℕ) → slice_get u 0 ≡ Some letter
+    → fill u (t ∷ ts) ≡ before (numeral (most_of letter) t) (λ x. fill (unrolled letter x ++ drop 1 u) ts)
 unfolding fill
-fill-next [] t ts h = absurd (omega arith)
-fill-next (l ∷ u) t ts h = refl
+fill-next [] t ts letter e = absurd (none-some letter e)
+fill-next (l ∷ u) t ts letter e =
+    ap (λ (k : ℕ). before (numeral (most_of k) t) (λ x. fill (unrolled k x ++ u) ts)) (same_Some l letter e)
 
 -- letters that are left without a token
-pub fill-short : (u : List ℕ) → 0 < length u → fill u [] ≡ none
+pub fill-short : (u : List ℕ) → is_some (slice_get u 0) ≡ true → fill u [] ≡ None
 unfolding fill
-fill-short [] h = absurd (omega arith)
-fill-short (l ∷ u) h = refl
+fill-short [] e = let z : ◌≡◌ {A = ℕ} 0 1 = cc in absurd (omega arith)
+fill-short (l ∷ u) e = refl
 
 -- no letter and no token is left
-pub fill_done : (u : List ℕ) → length u ≡ 0 → fill u [] ≡ some []
+pub fill_done : (u : List ℕ) → is_some (slice_get u 0) ≡ false → fill u [] ≡ Some []
 unfolding fill
-fill_done [] h = refl
-fill_done (l ∷ u) h = absurd (omega arith)
+fill_done [] e = refl
+fill_done (l ∷ u) e = let z : ◌≡◌ {A = ℕ} 0 1 = cc in absurd (omega arith)
 
 -- what a turn of the loop over the tokens finds, `xs` having been read before, for the token t and those behind it
 module _ (whole : Option (List ℕ)) (xs u t : List ℕ) (ts : List (List ℕ)) (inv : whole ≡ after xs (fill u (t ∷ ts))) where
   -- a token too many
-  pub turn-over : length u ≡ 0 → whole ≡ none
+  pub turn-over : slice_get u 0 ≡ None → whole ≡ None
   turn-over h = inv ∙ ap (after xs) (fill-over u t ts h)
 
-  module _ (some : 0 < length u) where
+  module _ (letter : ℕ) (next : slice_get u 0 ≡ Some letter) where
     -- a token that its place does not hold
-    pub turn-none : numeral (most_of (get_or u 0 0)) t ≡ Number.None → whole ≡ none
+    pub turn-none : numeral (most_of letter) t ≡ None → whole ≡ None
     turn-none e =
-        inv ∙ ap (after xs) (fill-next u t ts some
-        ∙ ap (λ (m : Number). before m (λ x. fill (unrolled (get_or u 0 0) x ++ drop 1 u) ts)) e)
+        inv ∙ ap (after xs) (fill-next u t ts letter next ∙ ap (λ (m : Option ℕ). before m (λ x. fill (unrolled letter x ++ drop 1 u) ts)) e)
 
     -- a number, and what is left behind it
-    pub turn-next : (x : ℕ) (u' : List ℕ) → numeral (most_of (get_or u 0 0)) t ≡ Number.Value x → u' ≡ unrolled (get_or u 0 0) x ++ drop 1 u
+    pub turn-next : (x : ℕ) (u' : List ℕ) → numeral (most_of letter) t ≡ Some x → u' ≡ unrolled letter x ++ drop 1 u
         → whole ≡ after (xs ++ (x ∷ [])) (fill u' ts)
     turn-next x u' e p =
-        inv ∙ ap (after xs) (fill-next u t ts some
-        ∙ ap (λ (m : Number). before m (λ x. fill (unrolled (get_or u 0 0) x ++ drop 1 u) ts)) e
+        inv ∙ ap (after xs) (fill-next u t ts letter next
+        ∙ ap (λ (m : Option ℕ). before m (λ x. fill (unrolled letter x ++ drop 1 u) ts)) e
         ∙ ap (λ (s : List ℕ). joined x (fill s ts)) (sym p))
         ∙ after_one xs x (fill u' ts)
 
--- what a turn leaves in the room, the numbers from place i on being to come
-pub filled-over : (i : ℕ) (room u t : List ℕ) (ts : List (List ℕ)) → length u ≡ 0 → filled i room u (t ∷ ts) ≡ room
+filled-over : (i : ℕ) (room u t : List ℕ) (ts : List (List ℕ)) → slice_get u 0 ≡ None → filled i room u (t ∷ ts) ≡ room
 unfolding filled
-filled-over i room [] t ts h = refl
-filled-over i room (l ∷ u) t ts h = absurd (omega arith)
+filled-over i room [] t ts e = refl
+filled-over i room (l ∷ u) t ts e = absurd (none-some l (sym e))
 
-filled_next : (i : ℕ) (room u t : List ℕ) (ts : List (List ℕ)) → 0 < length u
+filled_next : (i : ℕ) (room u t : List ℕ) (ts : List (List ℕ)) (letter : ℕ) → slice_get u 0 ≡ Some letter
     → filled i room u (t ∷ ts)
-    ≡ stored (numeral (most_of (get_or u 0 0)) t) i room (λ x next. filled (i + 1) next (unrolled (get_or u 0 0) x ++ drop 1 u) ts)
+    ≡ stored (numeral (most_of letter) t) i room (λ x next. filled (i + 1) next (unrolled letter x ++ drop 1 u) ts)
 unfolding filled
-filled_next i room [] t ts h = absurd (omega arith)
-filled_next i room (l ∷ u) t ts h = refl
+filled_next i room [] t ts letter e = absurd (none-some letter e)
+filled_next i room (l ∷ u) t ts letter e =
+    ap (λ (k : ℕ). stored (numeral (most_of k) t) i room (λ x next. filled (i + 1) next (unrolled k x ++ u) ts)) (same_Some l letter e)
 
-module _ (i : ℕ) (room u t : List ℕ) (ts : List (List ℕ)) where
-  module _ (some : 0 < length u) where
-    -- a token that its place does not hold leaves the room as it is
-    pub filled_none : numeral (most_of (get_or u 0 0)) t ≡ Number.None → filled i room u (t ∷ ts) ≡ room
-    filled_none e =
-        filled_next i room u t ts some ∙ ap (λ (m : Number). stored m i room (λ x next. filled (i + 1) next (unrolled (get_or u 0 0) x ++ drop 1 u) ts)) e
+-- what a turn leaves in the room, the numbers from place i on being to come
+module _ (whole : List ℕ) (i : ℕ) (room u t : List ℕ) (ts : List (List ℕ)) (inv : whole ≡ filled i room u (t ∷ ts)) where
+  -- a token too many leaves the room as it is
+  pub room-over : slice_get u 0 ≡ None → whole ≡ room
+  room-over h = inv ∙ filled-over i room u t ts h
+
+  module _ (letter : ℕ) (next : slice_get u 0 ≡ Some letter) where
+    -- so does one that its place does not hold
+    pub room-none : numeral (most_of letter) t ≡ None → whole ≡ room
+    room-none e =
+        inv ∙ filled_next i room u t ts letter next
+        ∙ ap (λ (m : Option ℕ). stored m i room (λ x next. filled (i + 1) next (unrolled letter x ++ drop 1 u) ts)) e
 
     -- a number is stored, and the next ones behind it
-    pub filled-one : (x : ℕ) (u' : List ℕ) → numeral (most_of (get_or u 0 0)) t ≡ Number.Value x → u' ≡ unrolled (get_or u 0 0) x ++ drop 1 u
-        → filled i room u (t ∷ ts) ≡ filled (i + 1) (set room i x) u' ts
-    filled-one x u' e p =
-        filled_next i room u t ts some ∙ ap (λ (m : Number). stored m i room (λ x next. filled (i + 1) next (unrolled (get_or u 0 0) x ++ drop 1 u) ts)) e
+    pub room-next : (x : ℕ) (u' : List ℕ) → numeral (most_of letter) t ≡ Some x → u' ≡ unrolled letter x ++ drop 1 u
+        → whole ≡ filled (i + 1) (set room i x) u' ts
+    room-next x u' e p =
+        inv ∙ filled_next i room u t ts letter next
+        ∙ ap (λ (m : Option ℕ). stored m i room (λ x next. filled (i + 1) next (unrolled letter x ++ drop 1 u) ts)) e
         ∙ ap (λ (s : List ℕ). filled (i + 1) (set room i x) s ts) (sym p)
 
 -- no token is left
@@ -199,16 +140,16 @@ Fitted (letter ∷ shape) [] = ⊥
 Fitted (letter ∷ shape) (x ∷ ns) =
     (x ≤ most_of letter) × (items_of letter x ≤ length ns) × Fits (eqb letter 76) (items_of letter x) 0 ns × Fitted shape (drop (items_of letter x) ns)
 
-joined-some : (x : ℕ) (m : Option (List ℕ)) (ns : List ℕ) → joined x m ≡ some ns → (rest : List ℕ) × (m ≡ some rest) × (ns ≡ x ∷ rest)
-joined-some x none ns e = let z : ◌≡◌ {A = ℕ} 0 1 = cc in absurd (omega arith)
-joined-some x (some rest) ns e = (rest, refl, (cc))
+joined-some : (x : ℕ) (m : Option (List ℕ)) (ns : List ℕ) → joined x m ≡ Some ns → (rest : List ℕ) × (m ≡ Some rest) × (ns ≡ x ∷ rest)
+joined-some x None ns e = let z : ◌≡◌ {A = ℕ} 0 1 = cc in absurd (omega arith)
+joined-some x (Some rest) ns e = (rest, refl, (cc))
 
-before-some : (n : Number) (f : ℕ → Option (List ℕ)) (ns : List ℕ) → before n f ≡ some ns
-    → (x : ℕ) × (n ≡ Number.Value x) × (joined x (f x) ≡ some ns)
-before-some Number.None f ns e = let z : ◌≡◌ {A = ℕ} 0 1 = cc in absurd (omega arith)
-before-some (Number.Value x) f ns e = (x, refl, e)
+before-some : (n : Option ℕ) (f : ℕ → Option (List ℕ)) (ns : List ℕ) → before n f ≡ Some ns
+    → (x : ℕ) × (n ≡ Some x) × (joined x (f x) ≡ Some ns)
+before-some None f ns e = let z : ◌≡◌ {A = ℕ} 0 1 = cc in absurd (omega arith)
+before-some (Some x) f ns e = (x, refl, e)
 
-some-not : {x : List ℕ} → none ≡ some x → ⊥
+some-not : {x : List ℕ} → None ≡ Some x → ⊥
 some-not e = let z : ◌≡◌ {A = ℕ} 0 1 = cc in omega arith
 
 fits-none : (wide : Bool) (i : ℕ) (ns : List ℕ) → Fits wide 0 i ns
@@ -218,7 +159,7 @@ fits_one : (wide : Bool) (left x : ℕ) (ns : List ℕ) → x ≤ most_of (item_
 fits_one wide left x ns h rest zero k = simp unary_clauses h
 fits_one wide left x ns h rest (suc j) k = simp unary_clauses (simp unary_clauses at (rest j (omega arith)))
 
-fits : (ts : List (List ℕ)) (k : ℕ) (wide : Bool) (shape ns : List ℕ) → fill (items wide k ++ shape) ts ≡ some ns
+fits : (ts : List (List ℕ)) (k : ℕ) (wide : Bool) (shape ns : List ℕ) → fill (items wide k ++ shape) ts ≡ Some ns
     → (k ≤ length ns) × Fits wide k 0 ns × Fitted shape (drop k ns)
 unfolding fill
 fits [] zero wide [] ns e = let z : [] ≡ ns = cc in rw (← z) (omega arith, fits-none wide 0 [], refl)
@@ -271,7 +212,7 @@ places (l ∷ shape) i ns h f = go (dec_lt i (length ns)) (places shape (next_of
     go (no n) rest = absurd (subst (Fitted (l ∷ shape)) (let far : length ns ≤ i = omega (arith, n) in drop_of_length-le ns far) f)
 
 -- the numbers of a line stand where its shape has them
-pub fill-stands : (shape : List ℕ) (ts : List (List ℕ)) (ns : List ℕ) → fill shape ts ≡ some ns → Stands shape 0 ns
+pub fill-stands : (shape : List ℕ) (ts : List (List ℕ)) (ns : List ℕ) → fill shape ts ≡ Some ns → Stands shape 0 ns
 fill-stands shape ts ns e = places shape 0 ns (omega arith) (fits ts 0 true shape ns e).2
 
 -- ---- the numbers of records

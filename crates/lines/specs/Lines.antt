@@ -1,11 +1,10 @@
 -- Lines: what a line asks for, by a table of names and shapes.
-use Rattle.std.specs.Prelude.{Bool, true, ℕ, zero, suc, ◌+◌, eqb, leb, length, take, drop}
+use Rattle.std.specs.Prelude.{Bool, true, ℕ, zero, suc, ◌+◌, eqb, leb, length, take, bytes_eq, Option, Some, None}
 use Rattle.std.proofs.Math.Bool.{cond}
-use Rattle.std.proofs.Math.Option.{Option, none, some}
+use denote.Ref.{Bor}
 use mathlib.Core.List.{List, [], ◌∷◌}
-use Rattle.text.specs.Tokens.{cut, same}
+use Rattle.text.specs.Tokens.{cut}
 use Rattle.lines.specs.Shapes.{fill, filled}
-use Rattle.lines.specs.declared.call.Entry.{Entry}
 use Rattle.lines.specs.declared.call.Line.{Line}
 
 -- what a line asks for: the call of a verb, by its number, with the line's numbers; nothing; or what is no call
@@ -31,7 +30,7 @@ pub data Found : Type 0 where
 unfoldable pub lookup : List ℕ → ℕ → List (List ℕ) → Found
 lookup name v [] = nowhere
 lookup name v (x ∷ []) = nowhere
-lookup name v (x ∷ shape ∷ rest) = cond (same x name) (at v shape) (lookup name (v + 1) rest)
+lookup name v (x ∷ shape ∷ rest) = cond (bytes_eq x name) (at v shape) (lookup name (v + 1) rest)
 
 -- the shape of entry v
 abbrev pub shape_at : List (List ℕ) → ℕ → List ℕ
@@ -42,8 +41,8 @@ shape_at (x ∷ shape ∷ rest) (suc v) = shape_at rest v
 
 -- a verb with the numbers that fit its shape
 abbrev pub called : ℕ → Option (List ℕ) → Asked
-called v none = unknown
-called v (some ns) = call v ns
+called v None = unknown
+called v (Some ns) = call v ns
 
 -- "Empty lines and lines that begin with `#` are no calls and get no answer."
 abbrev pub is_silent : List ℕ → Bool
@@ -95,24 +94,19 @@ asked_in table line room = comes room (storing room) room table (trimmed line)
 
 -- ---- what the code's values mean
 
--- the entry of a table whose shape stands at a place
-abbrev pub found : Entry → List ℕ → Found
-found (Entry.At v from size) table = at v (take size (drop from table))
-found Entry.None table = nowhere
-
--- where its shape ends
-abbrev pub in_table : Entry → ℕ
-in_table (Entry.At v from size) = from + size
-in_table Entry.None = 0
+-- the entry that a search of the table gives
+abbrev pub found : Option (ℕ × Bor (List ℕ)) → Found
+found (Some entry) = at entry.0 entry.1.now
+found None = nowhere
 
 -- what a line asks for, with its numbers in the room
 abbrev pub meant : Line → List ℕ → Asked
 meant Line.Silent ns = silent
 meant Line.Unknown ns = unknown
-meant (Line.Call v count) ns = call v (take count ns)
+meant (Line.Call verb count) ns = call verb (take count ns)
 
 -- how many numbers it has
 abbrev pub used : Line → ℕ
 used Line.Silent = 0
 used Line.Unknown = 0
-used (Line.Call v count) = count
+used (Line.Call verb count) = count

@@ -1,10 +1,7 @@
 -- Shapes: which numbers a line has, and how many.
-use Rattle.std.specs.Prelude.{◌≡◌, Bool, cond, List, [], ◌∷◌, ◌++◌, ℕ, zero, suc, ◌+◌, ◌-◌, ◌*◌, ◌%◌, ◌^◌, ◌≤◌, ◌<◌, eqb, length, take, drop, get_or, set}
-use Rattle.std.proofs.Math.Option.{Option, none, some}
-use Rattle.text.specs.declared.Number.{Number}
+use Rattle.std.specs.Prelude.{◌≡◌, Bool, cond, List, [], ◌∷◌, ◌++◌, ℕ, zero, suc, ◌+◌, ◌-◌, ◌*◌, ◌%◌, ◌^◌, ◌≤◌, ◌<◌, eqb, length, take, get_or, set, Option, Some, None}
 use Rattle.text.specs.Numerals.{numeral}
 use Rattle.paper.specs.Words.{width}
-use Rattle.lines.specs.declared.shape.Counted.{Counted}
 use Rattle.lines.specs.declared.shape.Cursor.{Cursor}
 
 -- the most entries of a room that a line may ask for
@@ -38,25 +35,25 @@ unrolled letter x = items (eqb letter 76) (items_of letter x)
 
 -- a number in front of numbers
 abbrev pub joined : ℕ → Option (List ℕ) → Option (List ℕ)
-joined x none = none
-joined x (some ns) = some (x ∷ ns)
+joined x None = None
+joined x (Some ns) = Some (x ∷ ns)
 
 -- a number in front of those that its value asks for
-abbrev pub before : Number → (ℕ → Option (List ℕ)) → Option (List ℕ)
-before Number.None rest = none
-before (Number.Value x) rest = joined x (rest x)
+abbrev pub before : Option ℕ → (ℕ → Option (List ℕ)) → Option (List ℕ)
+before None rest = None
+before (Some x) rest = joined x (rest x)
 
 -- the numbers that the tokens are, if they fit the shape: each one's place holds it, none is missing and none is left over
 unfoldable pub fill : List ℕ → List (List ℕ) → Option (List ℕ)
-fill [] [] = some []
-fill (letter ∷ shape) [] = none
-fill [] (t ∷ ts) = none
+fill [] [] = Some []
+fill (letter ∷ shape) [] = None
+fill [] (t ∷ ts) = None
 fill (letter ∷ shape) (t ∷ ts) = before (numeral (most_of letter) t) (λ x. fill (unrolled letter x ++ shape) ts)
 
 -- a number stored at place i of a room, before those that its value asks for
-abbrev pub stored : Number → ℕ → List ℕ → (ℕ → List ℕ → List ℕ) → List ℕ
-stored Number.None i room rest = room
-stored (Number.Value x) i room rest = rest x (set room i x)
+abbrev pub stored : Option ℕ → ℕ → List ℕ → (ℕ → List ℕ → List ℕ) → List ℕ
+stored None i room rest = room
+stored (Some x) i room rest = rest x (set room i x)
 
 -- what is left in a room: the numbers of the tokens from place i on, up to the first token that does not fit the shape
 unfoldable pub filled : ℕ → List ℕ → List ℕ → List (List ℕ) → List ℕ
@@ -85,16 +82,16 @@ Stands (letter ∷ shape) i ns =
 
 -- ---- what the code's values mean
 
--- the numbers that were read
-abbrev pub counted : Counted → List ℕ → Option (List ℕ)
-counted (Counted.All count) ns = some (take count ns)
-counted Counted.None ns = none
+-- the numbers that were read, if they are so many
+abbrev pub counted : Option ℕ → List ℕ → Option (List ℕ)
+counted (Some count) ns = Some (take count ns)
+counted None ns = None
 
 -- how many
-abbrev pub held : Counted → ℕ
-held (Counted.All count) = count
-held Counted.None = 0
+abbrev pub held : Option ℕ → ℕ
+held (Some count) = count
+held None = 0
 
 -- the letters that are to come
-abbrev pub unread : Cursor → List ℕ → List ℕ
-unread c shape = items c.wide c.left ++ drop c.at shape
+abbrev pub unread : Cursor → List ℕ
+unread c = items c.wide c.left ++ c.letters.now

@@ -1,13 +1,11 @@
 // What a line asks for: a verb of the table and the numbers of its shape.
-ghost use Rattle.std.specs.Prelude.{◌≡◌, List, ℕ, ◌+◌, ◌*◌, ◌≤◌, length, take};
+ghost use Rattle.std.specs.Prelude.{◌≡◌, ◌*◌, ◌≤◌, length};
 ghost use Rattle.text.specs.Tokens.{cut};
-ghost use Rattle.lines.specs.Shapes.{held, counted};
-ghost use Rattle.lines.specs.Lines.{silent, unknown, lookup, found, spelled, comes, trimmed, calling, asked, storing, asked_in, meant, used, room_line, in_table};
-ghost use Rattle.lines.specs.Lines.{called as Lines·called};
+ghost use Rattle.lines.specs.Lines.{silent, unknown, lookup, found, spelled, comes, trimmed, calling, asked, storing, asked_in, meant, used, room_line};
 
-use crate::shape::{Counted, fill};
+use crate::shape::fill;
 use paper::Word;
-use text::{end_of, same};
+use text::next_token;
 
 // The most bytes that a call's line may have, without the newline.
 pub const ROOM_LINE: usize = 131071;
@@ -15,54 +13,28 @@ pub const ROOM_LINE: usize = 131071;
 // The most numbers that such a line has: each has a byte at least, and a space before it.
 pub const ROOM_NUMBERS: usize = 65536;
 
-// An entry of the table: its number, and the place and the size of its shape.
-#[derive(Clone, Copy)]
-pub enum Entry {
-    At(usize, usize, usize),
-    None,
-}
-
-// What a line asks for: nothing; what is no call; or the call of a verb, by its number, on the first numbers of the room.
+// What a line asks for: nothing; what is no call; or the call of a verb, by its number, on the first `count` numbers of the room.
 #[derive(Clone, Copy)]
 pub enum Line {
     Silent,
     Unknown,
-    Call(usize, usize),
+    Call { verb: usize, count: usize },
 }
 
-// Finds a verb's name in a table of names and shapes in turn, separated by spaces.
-fn find(table: &[u8], name: &[u8]) -> Entry
-    ensures entry { found result table.now ≡ lookup name.now 0 (cut 32 table.now) }
-    ensures result_in_bounds { in_table result ≤ length table.now }
+// Finds a verb's name in a table of names and shapes in turn, separated by spaces: its number and its shape.
+fn find<'a>(table: &'a [u8], name: &[u8]) -> Option<(usize, &'a [u8])>
+    ensures { found result ≡ lookup name.now 0 (cut 32 table.now) }
 {
-    let mut at = 0;
+    let mut rest = table;
     let mut v = 0;
     loop {
-        let end = end_of(table, at, b' ');
-        if end == table.len() {
-            return Entry::None;
+        let (entry, behind) = next_token(rest, b' ');
+        let (shape, next) = next_token(behind?, b' ');
+        if entry == name {
+            return Some((v, shape));
         }
-        let from = end + 1;
-        let to = end_of(table, from, b' ');
-        if same(&table[at..end], name) {
-            return Entry::At(v, from, to - from);
-        }
-        if to == table.len() {
-            return Entry::None;
-        }
-        at = to + 1;
+        rest = next?;
         v += 1;
-    }
-}
-
-// The call of verb v, if the numbers fit the shape.
-fn called(v: usize, numbers: Counted) -> Line
-    ensures meaning { (ns : List ℕ) → meant result ns ≡ Lines·called v (counted numbers ns) }
-    ensures used_count { used result ≡ held numbers }
-{
-    match numbers {
-        Counted::All(count) => Line::Call(v, count),
-        Counted::None => Line::Unknown,
     }
 }
 
@@ -73,15 +45,17 @@ fn parse_call(line: &[u8], table: &[u8], numbers: &mut [Word]) -> Line
     ensures result_in_bounds { used result ≤ length numbers.new }
     ensures numbers_after { numbers.new ≡ spelled numbers.old (storing numbers.old) table.now (cut 32 line.now) }
 {
-    let end = end_of(line, 0, b' ');
-    if end == line.len() {
-        return Line::Unknown;
-    }
-    let Entry::At(v, from, size) = find(table, &line[..end]) else {
+    let (name, behind) = next_token(line, b' ');
+    let Some(tokens) = behind else {
         return Line::Unknown;
     };
-    let to = from + size;
-    called(v, fill(line, end + 1, &table[from..to], numbers))
+    let Some((verb, shape)) = find(table, name) else {
+        return Line::Unknown;
+    };
+    match fill(tokens, shape, numbers) {
+        Some(count) => Line::Call { verb, count },
+        None => Line::Unknown,
+    }
 }
 
 // What a line that ends at its last byte asks for. Its numbers are left in the lent room.
@@ -92,32 +66,22 @@ fn parse_trimmed(line: &[u8], table: &[u8], numbers: &mut [Word]) -> Line
     ensures result_in_bounds { used result ≤ length numbers.new }
     ensures numbers_after { numbers.new ≡ comes numbers.old (storing numbers.old) numbers.old table.now line.now }
 {
-    if line.len() == 0 {
-        return Line::Silent;
+    match line {
+        [] | [b'#', ..] => Line::Silent,
+        _ if ROOM_LINE < line.len() => Line::Unknown,
+        _ => parse_call(line, table, numbers),
     }
-    if line[0] == b'#' {
-        return Line::Silent;
-    }
-    if ROOM_LINE < line.len() {
-        return Line::Unknown;
-    }
-    parse_call(line, table, numbers)
 }
 
-// Where a line ends: before the carriage return that may be its last byte.
-#[tactic(auto, using(crate::proofs::Lines::trimmed_off, crate::proofs::Lines::trimmed_kept))]
-fn trimmed_end(line: &[u8]) -> usize
-    ensures trimmed_line { take result line.now ≡ trimmed line.now }
-    ensures upper_bound { result ≤ length line.now }
+// A line without the carriage return that may be its last byte.
+#[tactic(auto, using(crate::proofs::Lines::trims))]
+fn trimmed(line: &[u8]) -> &[u8]
+    ensures { result.now ≡ trimmed line.now }
 {
-    let end = line.len();
-    if end == 0 {
-        return end;
+    match line {
+        [front @ .., b'\r'] => front,
+        _ => line,
     }
-    if line[end - 1] == b'\r' {
-        return end - 1;
-    }
-    end
 }
 
 // What a line asks for. Its numbers are left in the lent room.
@@ -127,6 +91,5 @@ pub fn parse(line: &[u8], table: &[u8], numbers: &mut [Word]) -> Line
     ensures result_in_bounds { used result ≤ length numbers.new }
     ensures numbers_after { numbers.new ≡ asked_in table.now line.now numbers.old }
 {
-    let end = trimmed_end(line);
-    parse_trimmed(&line[..end], table, numbers)
+    parse_trimmed(trimmed(line), table, numbers)
 }

@@ -1,12 +1,11 @@
 // The numbers of a line, against a shape: `n` a number of 32 bits, `b` one of 8, `w` a word, `m` the size of a room, `L` a count and as many words, `R` a count and
 // three numbers for each, the third of 8 bits.
-ghost use Rattle.std.specs.Prelude.{◌≡◌, ◌+◌, ◌*◌, ◌≤◌, ◌<◌, eqb, length, get_or, drop, ◌++◌};
+ghost use Rattle.std.specs.Prelude.{◌≡◌, ◌*◌, ◌≤◌, ◌++◌, length, drop, slice_get};
 ghost use Rattle.text.specs.Tokens.{cut};
-ghost use Rattle.lines.specs.Shapes.{most_of, items_of, item_of, unrolled, filled, counted, held, unread};
-ghost use Rattle.lines.specs.Shapes.{fill as Shapes·fill};
+ghost use Rattle.lines.specs.Shapes.{most_of, items_of, item_of, unrolled, fill, filled, counted, held, unread};
 
 use paper::{WIDTH, Word};
-use text::{Number, end_of, parse_number};
+use text::{next_token, parse_number};
 
 // The most that a word holds: all its bits.
 const MOST_WORD: u64 = u64::MAX >> (64 - WIDTH);
@@ -20,35 +19,16 @@ const MOST_BYTE: u64 = 255;
 // The most entries of a room that a line may ask for: such a room is lent from memory that is always there.
 pub const MOST_ROOM: usize = 4096;
 
-// Where a shape is read: `left` items of a list are to come, words or the numbers of records, and then the letters from `at` on.
-#[derive(Clone, Copy)]
-struct Cursor {
-    at: usize,
-    left: u64,
-    wide: bool,
-}
-
-// How many numbers were read into the lent room, or that they do not fit the shape.
-#[derive(Clone, Copy)]
-pub enum Counted {
-    All(usize),
-    None,
-}
-
 // The most that the place of a letter holds.
 fn most_of(letter: u8) -> u64
     ensures { result ≡ most_of letter }
 {
-    if letter == b'w' {
-        return MOST_WORD;
+    match letter {
+        b'w' => MOST_WORD,
+        b'b' => MOST_BYTE,
+        b'm' => MOST_ROOM as u64,
+        _ => MOST_NUMBER,
     }
-    if letter == b'b' {
-        return MOST_BYTE;
-    }
-    if letter == b'm' {
-        return MOST_ROOM as u64;
-    }
-    MOST_NUMBER
 }
 
 // How many items follow the number at a letter.
@@ -56,21 +36,11 @@ fn items_of(letter: u8, x: u64) -> u64
     requires { x ≤ most_of letter }
     ensures { result ≡ items_of letter x }
 {
-    if letter == b'L' {
-        return x;
+    match letter {
+        b'L' => x,
+        b'R' => 3 * x,
+        _ => 0,
     }
-    if letter == b'R' {
-        return 3 * x;
-    }
-    0
-}
-
-// Whether the shape is at its end.
-fn is_read(shape: &[u8], c: Cursor) -> bool
-    requires { c.at ≤ length shape.now }
-    ensures { result ≡ eqb (length (unread c shape.now)) 0 }
-{
-    c.left == 0 && c.at == shape.len()
 }
 
 // The letter of an item, of as many as are left.
@@ -86,76 +56,73 @@ fn item_of(wide: bool, left: u64) -> u8
     b'n'
 }
 
-// The letter of the next number.
-fn letter_of(shape: &[u8], c: Cursor) -> u8
-    requires at_in_bounds { c.at ≤ length shape.now }
-    requires nonzero { 0 < length (unread c shape.now) }
-    ensures { result ≡ get_or (unread c shape.now) 0 0 }
-{
-    if c.left > 0 {
-        return item_of(c.wide, c.left);
-    }
-    let at = c.at;
-    shape[at]
+// Where a shape is read: `left` items of a list are to come, words or the numbers of records, and then the letters.
+#[derive(Clone, Copy)]
+struct Cursor<'a> {
+    left: u64,
+    wide: bool,
+    letters: &'a [u8],
 }
 
-// Where the shape is read behind the number x.
-fn passed(shape: &[u8], c: Cursor, x: u64) -> Cursor
-    requires at_in_bounds { c.at ≤ length shape.now }
-    requires nonzero { 0 < length (unread c shape.now) }
-    requires x_bound { x ≤ most_of (get_or (unread c shape.now) 0 0) }
-    ensures unread_after { unread result shape.now ≡ unrolled (get_or (unread c shape.now) 0 0) x ++ drop 1 (unread c shape.now) }
-    ensures at_after_in_bounds { result.at ≤ length shape.now }
-{
-    if c.left > 0 {
-        return Cursor {
-            at: c.at,
-            left: c.left - 1,
-            wide: c.wide,
-        };
-    }
-    let at = c.at;
-    let letter = shape[at];
-    Cursor {
-        at: at + 1,
-        left: items_of(letter, x),
-        wide: letter == b'L',
-    }
-}
-
-// The tokens of a line from a place on, as numbers of the shape in the lent room. Each takes two bytes at least, so that the room cannot run out.
-pub fn fill(line: &[u8], from: usize, shape: &[u8], numbers: &mut [Word]) -> Counted
-    requires from_in_bounds { from ≤ length line.now }
-    requires line_len_bound { length line.now ≤ 2 * length numbers.old }
-    ensures meaning { counted result numbers.new ≡ Shapes·fill shape.now (cut 32 (drop from line.now)) }
-    ensures result_in_bounds { held result ≤ length numbers.new }
-    ensures numbers_after { numbers.new ≡ filled 0 numbers.old shape.now (cut 32 (drop from line.now)) }
-{
-    let mut at = from;
-    let mut count = 0;
-    let mut c = Cursor {
-        at: 0,
-        left: 0,
-        wide: false,
-    };
-    loop {
-        if is_read(shape, c) {
-            return Counted::None;
+impl<'a> Cursor<'a> {
+    // The letter of the next number, if the shape is not at its end.
+    fn letter(self) -> Option<u8>
+        ensures { result ≡ slice_get (unread self.entry) 0 }
+    {
+        match self.left {
+            0 => self.letters.first().copied(),
+            left => Some(item_of(self.wide, left)),
         }
-        let end = end_of(line, at, b' ');
-        let Number::Value(x) = parse_number(&line[at..end], most_of(letter_of(shape, c))) else {
-            return Counted::None;
-        };
-        numbers[count] = x as Word;
-        count += 1;
-        c = passed(shape, c, x);
-        if end == line.len() {
-            return if is_read(shape, c) {
-                Counted::All(count)
-            } else {
-                Counted::None
+    }
+
+    // Where the shape is read behind the number x at its next letter.
+    fn behind(self, letter: u8, x: u64) -> Cursor<'a>
+        requires letter_next { slice_get (unread self) 0 ≡ Some letter }
+        requires x_bound { x ≤ most_of letter }
+        ensures { unread result ≡ unrolled letter x ++ drop 1 (unread self.entry) }
+    {
+        if self.left > 0 {
+            return Cursor {
+                left: self.left - 1,
+                ..self
             };
         }
-        at = end + 1;
+        Cursor {
+            left: items_of(letter, x),
+            wide: letter == b'L',
+            letters: &self.letters[1..],
+        }
+    }
+}
+
+// The tokens of a line as numbers of the shape, in the lent room; how many, if they fit the shape. Each takes two bytes at least, so that the room cannot run out.
+pub fn fill(line: &[u8], shape: &[u8], numbers: &mut [Word]) -> Option<usize>
+    requires { length line.now ≤ 2 * length numbers.old }
+    ensures meaning { counted result numbers.new ≡ fill shape.now (cut 32 line.now) }
+    ensures result_in_bounds { held result ≤ length numbers.new }
+    ensures numbers_after { numbers.new ≡ filled 0 numbers.old shape.now (cut 32 line.now) }
+{
+    let mut rest = line;
+    let mut count = 0;
+    let mut cursor = Cursor {
+        left: 0,
+        wide: false,
+        letters: shape,
+    };
+    loop {
+        let (token, behind) = next_token(rest, b' ');
+        let letter = cursor.letter()?;
+        let x = parse_number(token, most_of(letter))?;
+        numbers[count] = x as Word;
+        count += 1;
+        cursor = cursor.behind(letter, x);
+        match behind {
+            Some(more) => rest = more,
+            None => return if cursor.letter().is_none() {
+                Some(count)
+            } else {
+                None
+            },
+        }
     }
 }

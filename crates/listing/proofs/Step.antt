@@ -1,17 +1,44 @@
 -- One step of the code's search, in the code's words: cells - 1, v - 1, and the weights from v to end - 1.
 -- For the proofs of `seek` and of `search_weights`. Assumes nothing.
-use mathlib.Core.Path.{◌≡◌, sym, ap, ◌∙◌}
-use mathlib.Core.Bool.{Bool, true, false}
+use mathlib.Core.Path.{◌≡◌, refl, sym, ap, ◌∙◌}
+use mathlib.Core.Bool.{Bool, true, false, true≢false}
 use mathlib.Core.List.{List, [], ◌∷◌, ◌++◌, map, map-append, map-map, map-id}
 use Prim.Native.Nat.{ℕ, zero, suc, ◌+◌, ◌-◌, ◌^◌, ◌≤◌, ◌<◌}
 use native.Mathlib.Nat.{zero-add, add_assoc, add_comm, add_left_comm}
 use native.Mathlib.Numerals.{add-one, unary_clauses}
 use native.Mathlib.Omega.{arith}
 use lib.ListN.{length, length-append, length-map}
-use Rattle.paper.specs.Listing.{found, missed, search, listed, weights}
-use Rattle.listing.specs.Searches.{above}
+use Rattle.std.proofs.Common.{Option, Some, None}
+use Rattle.std.specs.Option.{is_some}
+use Rattle.paper.specs.Listing.{Search, found, missed, search, listed, weights}
+use Rattle.listing.specs.declared.Found.{Found}
+use Rattle.listing.specs.Searches.{searched, above}
 use Rattle.listing.proofs.Listed.{listed-zero, listed-none, length-zero, length-step}
 use Rattle.listing.proofs.Searched.{or_else, search-hit, search-miss, search-append, missed-all}
+
+-- ---- what a search of the code found
+
+-- no word: all were tried
+missed-of : (f : Found) → is_some f.z ≡ false → searched f ≡ missed f.tried
+missed-of f = go f.z
+  where
+    go : (z : Option ℕ) → is_some z ≡ false → elim z [ Some x ↦ found x f.tried | None ↦ missed f.tried ] ≡ missed f.tried
+    go (Some x) e = absurd (true≢false e)
+    go None e = refl
+
+module _ {s : Search} (f : Found) (next : ℕ → Search) (q : searched f ≡ s) where
+  -- a word: nothing goes on from it
+  stays : is_some f.z ≡ true → or_else s next ≡ searched f
+  stays e = ap (λ (t : Search). or_else t next) (sym q) ∙ go f.z e
+    where
+      go : (z : Option ℕ) → is_some z ≡ true
+          → or_else (elim z [ Some x ↦ found x f.tried | None ↦ missed f.tried ]) next ≡ elim z [ Some x ↦ found x f.tried | None ↦ missed f.tried ]
+      go (Some x) e = refl
+      go None e = absurd (true≢false (sym e))
+
+  -- no word: it goes on from the number tried
+  goes_on : is_some f.z ≡ false → or_else s next ≡ next f.tried
+  goes_on e = ap (λ (t : Search). or_else t next) (sym q ∙ missed-of f e)
 
 -- ---- the words over the lower cells, with a base added
 
@@ -79,19 +106,22 @@ module _ (p : ℕ → Bool) (tried base cells v : ℕ) where
       ap (search p tried) (above-pred base cells v h g)
       ∙ search-append p (above base (cells - 1) v) (above (base + 2 ^ (cells - 1)) (cells - 1) (v - 1)) tried
 
-  -- found over the lower cells
-  pub seek-low : {z u : ℕ} → 0 < cells → 0 < v → search p tried (above base (cells - 1) v) ≡ found z u
-      → search p tried (above base cells v) ≡ found z u
-  seek-low h g e = rw (seek-step h g, e)
+  module _ (f : Found) where
+    -- found over the lower cells
+    pub seek-low : 0 < cells → 0 < v → searched f ≡ search p tried (above base (cells - 1) v) → is_some f.z ≡ true
+        → searched f ≡ search p tried (above base cells v)
+    seek-low h g q e = sym (seek-step h g ∙ stays f _ q e)
 
-  -- not found there: the search goes on with the cell added, which the code calls b
-  pub seek-up : {u b : ℕ} → 0 < cells → 0 < v → b ≡ 2 ^ (cells - 1) → search p tried (above base (cells - 1) v) ≡ missed u
-      → search p tried (above base cells v) ≡ search p u (above (base + b) (cells - 1) (v - 1))
-  seek-up h g f e = rw (seek-step h g, e, f)
+    -- not found there: the search goes on with the cell added, which the code calls b
+    pub seek-up : {b : ℕ} → 0 < cells → 0 < v → b ≡ 2 ^ (cells - 1) → searched f ≡ search p tried (above base (cells - 1) v) → is_some f.z ≡ false
+        → search p tried (above base cells v) ≡ search p f.tried (above (base + b) (cells - 1) (v - 1))
+    seek-up h g m q e = rw m (seek-step h g ∙ goes_on f _ q e)
 
-  -- and from how many on
-  pub seek-count : {u : ℕ} → search p tried (above base cells v) ≡ missed u → u ≡ tried + length (listed cells v)
-  seek-count e = missed-all p (above base cells v) tried e ∙ ap (λ (k : ℕ). tried + k) (length-map (listed cells v) (λ z. base + z))
+    -- and from how many on
+    pub seek-count : searched f ≡ search p tried (above base cells v) → is_some f.z ≡ false → f.tried ≡ tried + length (listed cells v)
+    seek-count q e =
+        missed-all p (above base cells v) tried (sym q ∙ missed-of f e)
+        ∙ ap (λ (k : ℕ). tried + k) (length-map (listed cells v) (λ z. base + z))
 
 -- ---- the weights from v to end - 1, one at a time
 
@@ -119,11 +149,11 @@ module _ (p : ℕ → Bool) (tried n v end : ℕ) where
       ap (search p tried) (weights-more n v end h) ∙ search-append p (listed n v) (weights n (v + 1) (end - (v + 1))) tried
       ∙ ap (λ (l : List ℕ). or_else (search p tried l) (λ u. search p u (weights n (v + 1) (end - (v + 1))))) (sym (above-all n v))
 
-  -- found at weight v
-  pub span-hit : {z u : ℕ} → v < end → search p tried (above 0 n v) ≡ found z u → search p tried (weights n v (end - v)) ≡ found z u
-  span-hit h e = rw (span-step h, e)
+  module _ (f : Found) (q : searched f ≡ search p tried (above 0 n v)) where
+    -- found at weight v
+    pub span-hit : v < end → is_some f.z ≡ true → searched f ≡ search p tried (weights n v (end - v))
+    span-hit h e = sym (span-step h ∙ stays f _ q e)
 
-  -- not found there: the search goes on at the next weight
-  pub span_more : {u : ℕ} → v < end → search p tried (above 0 n v) ≡ missed u
-      → search p tried (weights n v (end - v)) ≡ search p u (weights n (v + 1) (end - (v + 1)))
-  span_more h e = rw (span-step h, e)
+    -- not found there: the search goes on at the next weight
+    pub span_more : v < end → is_some f.z ≡ false → search p tried (weights n v (end - v)) ≡ search p f.tried (weights n (v + 1) (end - (v + 1)))
+    span_more h e = span-step h ∙ goes_on f _ q e

@@ -1,14 +1,12 @@
 -- What the code's search answers and tests, in the paper's terms.
-use Rattle.std.specs.Prelude.{Bool, not, ◌&&◌, ◌||◌, List, map, ℕ, ◌+◌, eqb, length}
+use Rattle.std.specs.Prelude.{Bool, not, ◌&&◌, ◌||◌, Some, None, List, map, ℕ, ◌+◌, eqb, length}
 use Rattle.paper.specs.Words.{products, ◌⊕◌}
 use Rattle.paper.specs.Listing.{Search, found, missed, listed}
 use Rattle.listing.specs.declared.Found.{Found}
-use Rattle.listing.specs.declared.Found.TheVariants.{At, Nothing}
 
 -- an answer of the code, as the paper's `Search`
 abbrev pub searched : Found → Search
-searched (At z tried) = found z tried
-searched (Nothing tried) = missed tried
+searched f = elim f.z [ Some z ↦ found z f.tried | None ↦ missed f.tried ]
 
 -- the one test that serves reading, d0 and d1: every product of y + z with the rows `clear` is 0, and some product with the rows `stirred` is not;
 -- no rows `stirred` ask nothing

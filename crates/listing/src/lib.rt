@@ -9,25 +9,18 @@ ghost use Rattle.listing.specs.Searches.{searched, passes, above};
 use paper::{Count, Word};
 use words::{cell_of, product_of};
 
-// What a search finds: a word and "the place of z in the list, counted from 1"; or that all of the list was tried.
+// What a search finds: the first word that passes, if there is one, and the number tried, which is then "the place of z in the list, counted from 1", and else the length of the list.
 #[derive(Clone, Copy)]
-pub enum Found {
-    At { z: Word, tried: Count },
-    Nothing { tried: Count },
+pub struct Found {
+    pub z: Option<Word>,
+    pub tried: Count,
 }
 
 // Whether the product of x with each row is 0: of the rows of H, whether x is a codeword. It leaves at the first product that is not 0.
 fn is_clear(rows: &[Word], x: Word) -> bool
     ensures { result ≡ eqb (products rows.now x) 0 }
 {
-    let mut i = 0;
-    while i < rows.len() {
-        if product_of(rows[i], x) != 0 {
-            return false;
-        }
-        i += 1;
-    }
-    true
+    rows.iter().all(|row| product_of(*row, x) == 0)
 }
 
 // The one test of a listed word z: y + z has product 0 with each row of `clear`, and product 1 with some row of `stirred`, where it has rows.
@@ -35,13 +28,7 @@ fn is_hit(clear: &[Word], stirred: &[Word], y: Word, z: Word) -> bool
     ensures { result ≡ passes clear.now stirred.now y z }
 {
     let x = y ^ z;
-    if is_clear(clear, x) {
-        if stirred.len() == 0 {
-            return true;
-        }
-        return !is_clear(stirred, x);
-    }
-    false
+    is_clear(clear, x) && (stirred.is_empty() || !is_clear(stirred, x))
 }
 
 // The first hit of weight v over the lower cells, `base` added to each word and `tried` words tried before: "those of weight v over
@@ -61,21 +48,24 @@ fn seek(
     if v == 0 {
         let t = tried + 1;
         if is_hit(clear, stirred, y, base) {
-            return Found::At { z: base, tried: t };
+            return Found {
+                z: Some(base),
+                tried: t,
+            };
         }
-        return Found::Nothing { tried: t };
+        return Found { z: None, tried: t };
     }
     if cells < v {
-        return Found::Nothing { tried };
+        return Found { z: None, tried };
     }
     let c = cells - 1;
     let fewer = v - 1;
     let raised = base + cell_of(c);
     let low = seek(clear, stirred, y, c, v, base, tried);
-    match low {
-        Found::At { z, tried: t } => Found::At { z, tried: t },
-        Found::Nothing { tried: t } => seek(clear, stirred, y, c, fewer, raised, t),
+    if low.z.is_some() {
+        return low;
     }
+    seek(clear, stirred, y, c, fewer, raised, low.tried)
 }
 
 // The first hit of the list from weight `from` on, below weight `end`: "Words over n cells are listed by weight (number of ones), then by value."
@@ -93,10 +83,10 @@ pub fn search_weights(
     let mut tried: Count = 0;
     for v in from..end {
         let got = seek(clear, stirred, y, n, v, 0, tried);
-        let Found::Nothing { tried: t } = got else {
+        if got.z.is_some() {
             return got;
-        };
-        tried = t;
+        }
+        tried = got.tried;
     }
-    Found::Nothing { tried }
+    Found { z: None, tried }
 }

@@ -2,29 +2,20 @@
 // None of them asks anything of what it is handed.
 #![tactic(auto)]
 
-ghost use Rattle.std.specs.Prelude.{◌&&◌, [], ◌≡◌, leb};
+ghost use Rattle.std.specs.Prelude.{◌&&◌, [], ◌≡◌, leb, IfOk};
 ghost use Rattle.paper.specs.Page.{most_slots, most_records, opens, numbered, paged};
-ghost use Rattle.paper.specs.Refusals.{answer, admission, opening};
-ghost use Rattle.paper.specs.Sheet.{sheet};
+ghost use Rattle.paper.specs.Refusals.{answer, verdict, opening};
 
-use paper::{
-    Admission, MOST_CAP, MOST_NUMBER, MOST_RECORDS, MOST_SLOTS, MeasuredD1, Opening, Refusal, Word,
-};
+use paper::{MOST_CAP, MOST_NUMBER, MOST_RECORDS, MOST_SLOTS, MeasuredD1, Opening, Refusal, Sheet};
+use sheet::Admitted;
 
 // Opens a page, by the sheet alone: measures d1 with cap 8 and gives the page's plate number, d1 or 9 for more than 8. Refusals 1 to 6.
-pub fn open_page(n: u32, k: u32, l: u32, rows: &[Word]) -> Opening
-    ensures { opening result ≡ opens (sheet n k l rows.now) }
+pub fn open_page(sheet: &Sheet) -> Opening
+    ensures { opening result ≡ opens sheet.now }
 {
-    match store::measure_d1(n, k, l, rows, MOST_CAP) {
-        MeasuredD1::Distance {
-            d,
-            tried: _,
-            radius: _,
-        } => Opening::Number { number: d },
-        MeasuredD1::More {
-            tried: _,
-            radius: _,
-        } => Opening::Number {
+    match store::measure_d1(sheet, MOST_CAP) {
+        MeasuredD1::Distance { d, .. } => Opening::Number { number: d },
+        MeasuredD1::More { .. } => Opening::Number {
             number: MOST_NUMBER,
         },
         MeasuredD1::Refused(why) => Opening::Refused(why),
@@ -35,7 +26,7 @@ pub fn open_page(n: u32, k: u32, l: u32, rows: &[Word]) -> Opening
 fn is_number(number: u32) -> bool
     ensures { result ≡ numbered number }
 {
-    1 <= number && number <= MOST_NUMBER
+    (1..=MOST_NUMBER).contains(&number)
 }
 
 // Whether slots and records are few enough for 13: "more than 256 records or 2,048 slots".
@@ -45,21 +36,17 @@ pub fn are_few(slots: usize, count: usize) -> bool
     slots <= MOST_SLOTS && count <= MOST_RECORDS
 }
 
-// What every call on a page does first: 1 to 6, then 16 for the number, then 13 unless slots and records are few enough.
-pub fn admit(n: u32, k: u32, l: u32, rows: &[Word], number: u32, few: bool) -> Admission
-    ensures { admission result ≡ paged (sheet n k l rows.now) number few (answer []) }
+// What every call on a page does first: 1 to 6, then 16 for the number, then 13 unless slots and records are few enough. The sheet is given on as admitted.
+pub fn admit<'a>(sheet: &Sheet<'a>, number: u32, few: bool) -> Result<Admitted<'a>, Refusal>
+    ensures told { verdict result ≡ paged sheet.now number few (answer []) }
+    ensures same { IfOk result (λ s. s ≡ sheet.now) }
 {
-    match sheet::admit(n, k, l, rows) {
-        Admission::Refused(why) => Admission::Refused(why),
-        Admission::Admitted => {
-            if !is_number(number) {
-                return Admission::Refused(Refusal::Plate);
-            }
-            if few {
-                Admission::Admitted
-            } else {
-                Admission::Refused(Refusal::Crowded)
-            }
-        }
+    let admitted = sheet::admit(sheet)?;
+    if !is_number(number) {
+        return Err(Refusal::Plate);
     }
+    if !few {
+        return Err(Refusal::Crowded);
+    }
+    Ok(admitted)
 }

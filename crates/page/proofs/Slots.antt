@@ -4,6 +4,7 @@ use mathlib.Core.Path.{◌≡◌, sym, ap, ◌∙◌}
 use mathlib.Core.Bool.{◌&&◌}
 use mathlib.Core.List.{List}
 use Prim.Native.Nat.{ℕ, min}
+use native.Mathlib.Nat.{zero-add}
 use native.Mathlib.Omega.{arith}
 use lib.Dec.{ltb}
 use lib.ListN.{length}
@@ -26,7 +27,7 @@ module _ (s : Sheet) (rs : List StuckCell) (w : ℕ) where
   puts-at : (f : First) → first_broken s.n rs ≡ f → puts_admitted s (gathered_at f rs) w ≡ slot_writes s rs w
   unfolding puts_admitted slot_writes writes_admitted
   puts-at nowhere e = rw (e, stuck-passes s _ _ (unbroken-stuck s rs e))
-  puts-at (at i) e = rw e
+  puts-at (at i) e = rw (e, zero-add i)
 
 -- what the records of a slot gather to is written as the definition says
 pub puts-slot : (s : Sheet) → Sound s → (records : List StuckCell) (slot w : ℕ)

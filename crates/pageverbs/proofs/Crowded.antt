@@ -45,12 +45,13 @@ module _ (s : Sheet) (number slot w : ℕ) where
         sym (ap (λ (t : Told). page_after_write t page slot) (many-slots page records (lt-leb (length page) most_slots h) ∙ (crowded-refused s number).2 (answer [])))
 
 -- what a line's write is told is told of the first of its slots and records
-pub written-clipped : (ns page : List ℕ) (records : List StuckCell) (held : ℕ) → page ≡ take room_slots (page_in ns)
+pub written-clipped : (ns page : List ℕ) {s : Sheet} (records : List StuckCell) (held : ℕ) → s ≡ sheet_in ns → page ≡ take room_slots (page_in ns)
     → held ≡ min (at ns (page_end ns)) room_records → records ≡ records_from held (page_end ns + 1) ns
-    → page_writes (sheet_in ns) (arg ns 0) page records (at ns (records_end ns)) (at ns (records_end ns + 1)) ≡ page_written ns
-written-clipped ns page records held p e r =
+    → page_writes s (arg ns 0) page records (at ns (records_end ns)) (at ns (records_end ns + 1)) ≡ page_written ns
+written-clipped ns page records held own p e r =
     let slot = at ns (records_end ns) in
     let w = at ns (records_end ns + 1) in
-    ap₂ (λ (q : List ℕ) (rs : List StuckCell). page_writes (sheet_in ns) (arg ns 0) q rs slot w) p
+    ap (λ (s : Sheet). page_writes s (arg ns 0) page records slot w) own
+    ∙ ap₂ (λ (q : List ℕ) (rs : List StuckCell). page_writes (sheet_in ns) (arg ns 0) q rs slot w) p
     (r ∙ records-clipped held (at ns (page_end ns)) room_records (page_end ns + 1) ns e)
     ∙ clipped (sheet_in ns) (arg ns 0) slot w (page_in ns) (records_in ns)

@@ -14,9 +14,8 @@ ghost use Rattle.pageverbs.specs.Pages.{page_written, pwrite_text, page_reading}
 use answers::{say, say_list};
 use held::ROOM_RECORDS;
 use paper::{MOST_SLOTS, Word};
-use rooms::{ROOM_SLOTS, copy_page, copy_records};
-use text::smaller;
-use told::{Numbers, of_reading, of_written};
+use rooms::{ROOM_SLOTS, copy_page, copy_records, sheet_of};
+use told::Numbers;
 
 // `pread SHEET number LIST slot radius`.
 pub fn pread(ns: &[Word]) -> Numbers
@@ -27,11 +26,8 @@ pub fn pread(ns: &[Word]) -> Numbers
     let number = ns[rows] as u32;
     let from = rows + 1 + 1;
     let end = from + ns[rows + 1] as usize;
-    of_reading(page::page_read(
-        ns[0] as u32,
-        ns[1] as u32,
-        ns[2] as u32,
-        &ns[4..rows],
+    Numbers::from(page::page_read(
+        &sheet_of(ns),
         number,
         &ns[from..end],
         ns[end] as u32,
@@ -50,17 +46,13 @@ fn write_page(ns: &[Word], page: &mut [Word]) -> Numbers
     let end = rows + 1 + 1 + ns[rows + 1] as usize;
     let count = ns[end] as usize;
     let last = end + 1 + 3 * count;
-    let held = smaller(count, ROOM_RECORDS);
+    let held = count.min(ROOM_RECORDS);
     let records = copy_records(ns, end + 1, held);
-    of_written(lent::page_write(
-        ns[0] as u32,
-        ns[1] as u32,
-        ns[2] as u32,
-        &ns[4..rows],
+    Numbers::from(page::page_write(
+        &sheet_of(ns),
         ns[rows] as u32,
         page,
-        records,
-        held,
+        &records[..held],
         ns[last] as u32,
         ns[last + 1],
     ))
@@ -77,7 +69,7 @@ pub fn pwrite(ns: &[Word], out: &mut [u8]) -> usize
     let slots = ns[at] as usize;
     let from = at + 1;
     let end = from + slots;
-    let held = smaller(slots, ROOM_SLOTS);
+    let held = slots.min(ROOM_SLOTS);
     let mut page = copy_page(ns, from, held);
     let told = write_page(ns, &mut page[..held]);
     let said = say(out, 0, b"word | d ", told);

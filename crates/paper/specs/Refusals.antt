@@ -1,5 +1,5 @@
 -- "Where an answer is an enum, a definition gives this paper's number and values for each of its cases."
-use Rattle.std.specs.Prelude.{Bool, true, false, List, [], ◌∷◌, ℕ, ◌+◌}
+use Rattle.std.specs.Prelude.{Bool, true, false, List, [], ◌∷◌, ℕ, ◌+◌, Result, Ok, Err}
 use Rattle.paper.specs.First.{First, nowhere, at}
 use Rattle.paper.specs.declared.Refusal.{Refusal}
 use Rattle.paper.specs.declared.Refusal.TheVariants.{Shape, Stray, OffCode, OffMessage, DependentG0, DependentH, Message, Stuck, NoWord, ReadWord, Limit, NoCodeword, Crowded, NoSlot, Record, Plate, OtherShape, Lengths}
@@ -54,6 +54,11 @@ reason Lengths = bare 25
 -- "the refusal carries its reason"
 abbrev pub refused : Refusal → Told
 refused why = refusal (reason why).number (reason why).given
+
+-- what a judgment tells that passes something on or stops it: nothing with it, or its refusal
+abbrev pub verdict : {T : Type 0} → Result T Refusal → Told
+verdict (Ok passed) = answer []
+verdict (Err why) = refused why
 
 -- what an admission tells
 abbrev pub admission : Admission → Told

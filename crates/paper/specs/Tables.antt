@@ -7,6 +7,19 @@ use Rattle.paper.specs.Words.{cell, sum, ◌⊕◌}
 use Rattle.paper.specs.Refusals.{Told, answer, unless, unless_at}
 use Rattle.paper.specs.Sheet.{Sheet, sheet, r, G1, G0, shaped, judged}
 
+-- "three small tables: P (k by r), R (l by k), Q (l by r)", for a sheet with numbers n, k and l
+pub record Tables : Type 0 where
+  pub n : ℕ
+  pub k : ℕ
+  pub l : ℕ
+  pub P : List ℕ
+  pub R : List ℕ
+  pub Q : List ℕ
+
+-- the tables that a call is handed
+abbrev pub tables : ℕ → ℕ → ℕ → List ℕ → List ℕ → List ℕ → Tables
+tables n k l P R Q = record { n = n; k = k; l = l; P = P; R = R; Q = Q }
+
 -- ---- the letters of the formulas
 
 -- the rows row 0, row 1, .., `count` of them

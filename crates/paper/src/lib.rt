@@ -1,6 +1,8 @@
-// The answers of the store, as values, the types of their numbers, and the limits. What each answer tells, in the numbers and values
-// of document 01, stands in specs/Refusals.antt.
+// The sheet and the tables that a call is handed, the answers of the store, as values, the types of their numbers, and the limits. What each answer tells, in the
+// numbers and values of document 01, stands in specs/Refusals.antt.
 #![tactic(auto)]
+
+use std::marker::Model;
 
 // A word of cells: a row, a message, a word read or written, stuck cells and their levels, a choice of rows.
 pub type Word = u64;
@@ -25,6 +27,44 @@ pub const MOST_RECORDS: usize = 256;
 
 // The largest plate number, which says that d1 is more than the largest cap: `most_number` of specs/Page.antt.
 pub const MOST_NUMBER: u32 = 9;
+
+// "A sheet has numbers n, k, l, with r = n - k - l, and n + k rows": one that is handed in, whatever its numbers and rows are. A contract sees it as the
+// `Sheet` of specs/Sheet.antt.
+#[derive(Drop)]
+pub struct Sheet<'a> {
+    pub n: u32,
+    pub k: u32,
+    pub l: u32,
+    pub rows: &'a [Word],
+}
+
+impl<'a> Model for Sheet<'a> {
+    ghost use Rattle.paper.specs.Sheet.{Sheet, sheet};
+
+    ghost Value = { Sheet };
+
+    ghost view = { λ s. sheet s.n s.k s.l s.rows.now };
+}
+
+// "Three small tables: P (k by r), R (l by k), Q (l by r)": those that are handed in for a sheet with numbers n, k and l, each as its rows, bit c of a row
+// being column c. A contract sees them as the `Tables` of specs/Tables.antt.
+#[derive(Drop)]
+pub struct Tables<'a> {
+    pub n: u32,
+    pub k: u32,
+    pub l: u32,
+    pub p: &'a [Word],
+    pub r: &'a [Word],
+    pub q: &'a [Word],
+}
+
+impl<'a> Model for Tables<'a> {
+    ghost use Rattle.paper.specs.Tables.{Tables, tables};
+
+    ghost Value = { Tables };
+
+    ghost view = { λ t. tables t.n t.k t.l t.p.now t.r.now t.q.now };
+}
 
 // A record of the list in which a page's stuck cells arrive: "each naming slot, cell and level". A list of them
 // passes to and from C as it lies.

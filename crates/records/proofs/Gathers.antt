@@ -1,8 +1,8 @@
--- One step more gathers one record more: the steps over all records are what the records of the slot gather to.
+-- One step more gathers one record more, and behind the first that breaks the rule nothing changes: the steps over all records are what the records of the slot gather to.
 -- For `gather`, whose loop has gathered the records that it passed. Assumes nothing.
 use mathlib.Core.Path.{◌≡◌, refl, sym, ap, ap₂, ◌∙◌}
 use mathlib.Core.Bool.{Bool, true, false, cond, ◌||◌}
-use mathlib.Core.List.{List, [], ◌∷◌, ◌++◌, append-nil}
+use mathlib.Core.List.{List, [], ◌∷◌, ◌++◌, append-nil, append_assoc}
 use Prim.Native.Nat.{ℕ, suc, ◌+◌, ◌≤◌, ◌<◌, min}
 use native.Mathlib.Nat.{le_refl}
 use native.Mathlib.Numerals.{add-one}
@@ -10,16 +10,18 @@ use native.Mathlib.Decide.{dec_lt}
 use native.Mathlib.Omega.{arith}
 use borrow.Author.Tests.{le-leb, lt-leb}
 use lib.Dec.{eqb, leb}
-use lib.ListN.{length, get_or, take, length-append, length-take, get_or-append}
+use Rattle.std.proofs.Common.{Result, Ok, Err}
+use lib.ListN.{length, get_or, take, drop, take-append-drop, length-append, length-take, get_or-append}
 use lib.Seq.{take-suc, take-append-le, take-append_seam, get_or-append_seam}
 use Rattle.paper.specs.First.{First, nowhere, at, or_at, first}
 use Rattle.paper.specs.Page.{records_of, breaks, no_record, first_broken}
 use Rattle.paper.specs.Words.{width}
 use Rattle.paper.specs.declared.StuckCell.{StuckCell}
-use Rattle.records.specs.Gather.{gathered_at, gather_of, spoils, step_of}
+use Rattle.records.specs.Gather.{said_by, gathered_at, nothing, gather_of, spoils, step_of, next_of}
+use Rattle.records.specs.declared.Gathered.{Gathered}
 use Rattle.records.proofs.Lists.{records-append}
 use Rattle.records.proofs.Said.{stuck-more, levels-more, Agreed, unbroken}
-use Rattle.words.proofs.Firsts.{first-same, first-at}
+use Rattle.words.proofs.Firsts.{first-same}
 
 -- ---- one record more, behind the others
 
@@ -52,7 +54,7 @@ least n m c = go (dec_lt c n) (dec_lt c m)
     go (yes p) (no q) = le-leb (min n m) c (omega arith) ∙ sym (ap₂ ◌||◌ (lt-leb n c p) (le-leb m c (omega arith)))
     go (no p) q = le-leb (min n m) c (omega arith) ∙ sym (ap (λ (b : Bool). b || leb m c) (le-leb n c (omega arith)))
 
-spoils-breaks : (n : ℕ) (rs : List StuckCell) (r : StuckCell) → Agreed (min n width) rs → spoils n (gathered_at nowhere rs) r ≡ breaks (min n width) rs r
+spoils-breaks : (n : ℕ) (rs : List StuckCell) (r : StuckCell) → Agreed (min n width) rs → spoils n (said_by rs) r ≡ breaks (min n width) rs r
 spoils-breaks n rs r a = rw (least n width r.cell, a.tells r) (assoc (leb n r.cell) _ _)
   where
     assoc : (x y z : Bool) → x || (y || z) ≡ (x || y) || z
@@ -63,43 +65,57 @@ spoils-breaks n rs r a = rw (least n width r.cell, a.tells r) (assoc (leb n r.ce
 
 module _ (slot n : ℕ) (rs : List StuckCell) (r : StuckCell) where
   -- after records of which none breaks the rule
-  step-on : (b : Bool) → spoils n (gathered_at nowhere rs) r ≡ b → eqb r.slot slot ≡ true
-      → step_of slot n (gathered_at nowhere rs) r ≡ gathered_at (or_at nowhere (length rs) b) (rs ++ r ∷ [])
+  step-on : (b : Bool) → spoils n (said_by rs) r ≡ b → eqb r.slot slot ≡ true
+      → step_of slot n (said_by rs) r ≡ gathered_at (or_at nowhere (length rs) b) (rs ++ r ∷ [])
   unfolding step_of
   step-on true e o = rw (o, e)
   step-on false e o = rw (o, e, length_more rs r, stuck-more rs r, levels-more rs r, add-one (length rs))
 
   step-own : (f : First) → first_broken (min n width) rs ≡ f → eqb r.slot slot ≡ true
-      → step_of slot n (gathered_at f rs) r ≡ gathered_at (or_at f (length rs) (breaks (min n width) rs r)) (rs ++ r ∷ [])
-  unfolding step_of
+      → next_of slot n (gathered_at f rs) r ≡ gathered_at (or_at f (length rs) (breaks (min n width) rs r)) (rs ++ r ∷ [])
   step-own nowhere e o = step-on (breaks (min n width) rs r) (spoils-breaks n rs r (unbroken (min n width) rs e)) o
   step-own (at i) e o = refl
 
-  step_other : (f : First) → eqb r.slot slot ≡ false → step_of slot n (gathered_at f rs) r ≡ gathered_at f rs
+  step_other : (f : First) → eqb r.slot slot ≡ false → next_of slot n (gathered_at f rs) r ≡ gathered_at f rs
   unfolding step_of
   step_other nowhere o = rw o
   step_other (at i) o = refl
 
   step_by : (b : Bool) → eqb r.slot slot ≡ b
-      → step_of slot n (gathered_at (first_broken (min n width) rs) rs) r
+      → next_of slot n (gathered_at (first_broken (min n width) rs) rs) r
       ≡ gathered_at (first_broken (min n width) (cond b (rs ++ r ∷ []) rs)) (cond b (rs ++ r ∷ []) rs)
   step_by true o = rw (broken-more (min n width) rs r) (step-own (first_broken (min n width) rs) refl o)
   step_by false o = step_other (first_broken (min n width) rs) o
 
-step-more : (slot n : ℕ) (xs : List StuckCell) (r : StuckCell) → step_of slot n (gather_of slot n xs) r ≡ gather_of slot n (xs ++ r ∷ [])
+step-more : (slot n : ℕ) (xs : List StuckCell) (r : StuckCell) → next_of slot n (gather_of slot n xs) r ≡ gather_of slot n (xs ++ r ∷ [])
 unfolding gather_of
 step-more slot n xs r = rw (own-more slot xs r) (step_by slot n (records_of slot xs) r (eqb r.slot slot) refl)
 
 -- ---- the records before the i-th
 
-pub gathers-none : (slot n : ℕ) → record { broken = false; place = 0; mask = 0; levels = 0 } ≡ gather_of slot n []
+pub gathers-none : (slot n : ℕ) → Ok nothing ≡ gather_of slot n []
 unfolding gather_of first_broken first
 gathers-none slot n = refl
 
 pub gathers-next : (slot n : ℕ) (ys : List StuckCell) (i : ℕ) → i < length ys
-    → step_of slot n (gather_of slot n (take i ys)) (get_or ys i no_record) ≡ gather_of slot n (take (i + 1) ys)
+    → next_of slot n (gather_of slot n (take i ys)) (get_or ys i no_record) ≡ gather_of slot n (take (i + 1) ys)
 gathers-next slot n ys i h =
     step-more slot n (take i ys) (get_or ys i no_record) ∙ rw (add-one i, take-suc ys i no_record h)
+
+-- a step behind records of which none breaks the rule
+pub gathers-step : (slot n : ℕ) (ys : List StuckCell) (i : ℕ) → i < length ys → {g : Gathered} → Ok g ≡ gather_of slot n (take i ys)
+    → step_of slot n g (get_or ys i no_record) ≡ gather_of slot n (take (i + 1) ys)
+gathers-step slot n ys i h e = ap (λ (g : Result Gathered ℕ). next_of slot n g (get_or ys i no_record)) e ∙ gathers-next slot n ys i h
+
+-- behind the first that breaks the rule nothing changes
+broken-stays : (slot n : ℕ) (xs ys : List StuckCell) {i : ℕ} → gather_of slot n xs ≡ Err i → gather_of slot n (xs ++ ys) ≡ Err i
+broken-stays slot n xs [] e = rw append-nil e
+broken-stays slot n xs (y ∷ ys) e =
+    rw (← append_assoc xs (y ∷ []) ys)
+    (broken-stays slot n (xs ++ y ∷ []) ys (sym (step-more slot n xs y) ∙ ap (λ (g : Result Gathered ℕ). next_of slot n g y) e))
+
+pub gathers-broken : (slot n : ℕ) (ys : List StuckCell) (i : ℕ) {at : ℕ} → gather_of slot n (take i ys) ≡ Err at → gather_of slot n ys ≡ Err at
+gathers-broken slot n ys i e = rw (← take-append-drop i ys) (broken-stays slot n (take i ys) (drop i ys) e)
 
 own-few : (slot : ℕ) (xs : List StuckCell) → length (records_of slot xs) ≤ length xs
 own-few slot [] = le_refl 0
@@ -109,13 +125,12 @@ own-few slot (x ∷ xs) = go (eqb x.slot slot) (own-few slot xs)
     go true h = omega arith
     go false h = omega arith
 
-place-few : (n : ℕ) (rs : List StuckCell) (f : First) → first_broken n rs ≡ f → (gathered_at f rs).place ≤ length rs
-unfolding first_broken
-place-few n rs nowhere e = le_refl (length rs)
-place-few n rs (at i) e = omega (arith, (first-at (λ i. breaks n (take i rs) (get_or rs i no_record)) (length rs) i e).0)
+place_few : (rs : List StuckCell) (f : First) {g : Gathered} → gathered_at f rs ≡ Ok g → g.place ≤ length rs
+place_few rs nowhere {g} e = let q : said_by rs ≡ g = cc in omega (arith, ap (λ (x : Gathered). x.place) q)
+place_few rs (at i) e = cc
 
 -- no more records are counted than were passed
-pub gathers-few : (slot n : ℕ) (ys : List StuckCell) (i : ℕ) → (gather_of slot n (take i ys)).place ≤ i
+pub gathers-few : (slot n : ℕ) (ys : List StuckCell) (i : ℕ) {g : Gathered} → gather_of slot n (take i ys) ≡ Ok g → g.place ≤ i
 unfolding gather_of
-gathers-few slot n ys i =
-    omega (arith, place-few (min n width) (records_of slot (take i ys)) _ refl, own-few slot (take i ys), length-take i ys)
+gathers-few slot n ys i e =
+    omega (arith, place_few (records_of slot (take i ys)) _ e, own-few slot (take i ys), length-take i ys)

@@ -1,15 +1,15 @@
 // What a line lends: copies of its page and records, its lists, and rooms of the size that it asks for. A copy or a room is a local of the largest size, of which a part is lent.
 #![tactic(auto)]
 
-ghost use Rattle.std.specs.Prelude.{◌≡◌, ℕ, ◌+◌, ◌*◌, ◌≤◌, ◌<◌, length, take, drop, replicate};
-ghost use Rattle.lines.specs.Arguments.{part};
+ghost use Rattle.std.specs.Prelude.{◌≡◌, ℕ, ◌+◌, ◌*◌, ◌^◌, ◌≤◌, ◌<◌, length, take, drop, replicate};
+ghost use Rattle.lines.specs.Arguments.{part, behind, sheet_in};
 ghost use Rattle.lines.specs.Arguments.{at as Arguments·at};
 ghost use Rattle.lines.specs.Shapes.{Records, most_room};
 ghost use Rattle.rooms.specs.Lent.{room_slots, room_records, records_from};
 
 use held::ROOM_RECORDS;
 use lines::MOST_ROOM;
-use paper::{MOST_SLOTS, StuckCell, Word};
+use paper::{MOST_SLOTS, Sheet, StuckCell, Word};
 
 // The room for a page: one slot more than a page may have.
 pub const ROOM_SLOTS: usize = MOST_SLOTS + 1;
@@ -21,11 +21,7 @@ pub fn copy_page(ns: &[Word], from: usize, count: usize) -> [Word; ROOM_SLOTS]
     ensures { take count result ≡ take count (drop from ns.now) }
 {
     let mut page = [0; ROOM_SLOTS];
-    let mut i = 0;
-    while i < count {
-        page[i] = ns[from + i];
-        i += 1;
-    }
+    page[..count].copy_from_slice(&ns[from..from + count]);
     page
 }
 
@@ -42,15 +38,14 @@ pub fn copy_records(ns: &[Word], from: usize, count: usize) -> [StuckCell; ROOM_
         level: 0,
     };
     let mut records = [none; ROOM_RECORDS];
-    let mut i = 0;
-    while i < count {
+    // By index: over `chunks_exact(3)` the loop's invariant has to name the private parts of std's iterator.
+    for i in 0..count {
         let at = from + 3 * i;
         records[i] = StuckCell {
             slot: ns[at] as u32,
             cell: ns[at + 1] as u32,
             level: ns[at + 2] as u8,
         };
-        i += 1;
     }
     records
 }
@@ -88,4 +83,18 @@ pub fn list_at(ns: &[Word], at: usize) -> &[Word]
     let from = at + 1;
     let end = from + ns[at] as usize;
     &ns[from..end]
+}
+
+// "SHEET n k l LIST", which a line begins with.
+pub fn sheet_of(ns: &[Word]) -> Sheet
+    requires rows { (3 < length ns.now) × (behind ns.now ≤ length ns.now) }
+    requires narrow { (Arguments·at ns.now 0 < 2 ^ 32) × (Arguments·at ns.now 1 < 2 ^ 32) × (Arguments·at ns.now 2 < 2 ^ 32) }
+    ensures { result ≡ sheet_in ns.now }
+{
+    Sheet {
+        n: ns[0] as u32,
+        k: ns[1] as u32,
+        l: ns[2] as u32,
+        rows: list_at(ns, 3),
+    }
 }

@@ -12,8 +12,7 @@ use lib.Dec.{eqb, leb}
 use Rattle.paper.specs.First.{First, nowhere, at}
 use Rattle.paper.specs.Refusals.{Told, answer, more, refusal, unless, unless_at}
 use Rattle.words.specs.Places.{as_first}
-use Rattle.words.specs.declared.Place.{Place}
-use Rattle.words.specs.declared.Place.TheVariants.{At, Nowhere}
+use Rattle.std.proofs.Common.{Option, Some, None}
 use Rattle.words.proofs.Firsts.{at-nowhere}
 
 -- ---- what is told
@@ -98,12 +97,12 @@ module _ (number : ℕ) (next : Told) where
   unless-pass e q = q ∙ ap (λ (b : Bool). unless b number next) (sym e)
 
   -- a rule that is broken at a place: p is what the code found, and f what the definition finds
-  module _ {p : Place} {f : First} (e : as_first p ≡ f) where
-    pub stop : (base : ℕ) {i : ℕ} → p ≡ At i → refusal number ((base + i) ∷ []) ≡ unless_at f number base next
+  module _ {p : Option ℕ} {f : First} (e : as_first p ≡ f) where
+    pub stop : (base : ℕ) {i : ℕ} → p ≡ Some i → refusal number ((base + i) ∷ []) ≡ unless_at f number base next
     stop base h = ap (λ (x : First). unless_at x number base next) (sym (ap as_first h) ∙ e)
 
-    pub stop-first : {i : ℕ} → p ≡ At i → refusal number (i ∷ []) ≡ unless_at f number 0 next
+    pub stop-first : {i : ℕ} → p ≡ Some i → refusal number (i ∷ []) ≡ unless_at f number 0 next
     stop-first {i} h = ap (λ (x : ℕ). refusal number (x ∷ [])) (sym (zero-add i)) ∙ stop 0 h
 
-    pub pass : (base : ℕ) {told : Told} → p ≡ Nowhere → told ≡ next → told ≡ unless_at f number base next
+    pub pass : (base : ℕ) {told : Told} → p ≡ None → told ≡ next → told ≡ unless_at f number base next
     pass base h q = q ∙ ap (λ (x : First). unless_at x number base next) (sym (ap as_first h) ∙ e)

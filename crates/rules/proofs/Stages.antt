@@ -6,8 +6,8 @@ use mathlib.Core.List.{List, [], ◌∷◌}
 use Prim.Native.Nat.{ℕ, ◌+◌}
 use native.Mathlib.Omega.{arith}
 use Rattle.paper.specs.First.{First, nowhere, at}
-use Rattle.paper.specs.Refusals.{Told, answer, refusal, refused, admission, unless, unless_at}
-use Rattle.paper.specs.declared.Admission.{Admission}
+use Rattle.paper.specs.Refusals.{Told, answer, refusal, refused, verdict, unless, unless_at}
+use Rattle.std.specs.Prelude.{Result, Ok, Err}
 use Rattle.paper.specs.declared.Refusal.{Refusal}
 
 -- rules that refuse whatever comes next, or pass to it
@@ -46,10 +46,10 @@ pub alike-refused : {f : Told → Told} → Stage f → {number : ℕ} {given : 
 alike-refused (passes p) next other e = absurd (other (sym (p next) ∙ e))
 alike-refused (refuses m g p) next other e = p (answer []) ∙ sym (p next) ∙ e
 
--- verdict is what the code was told of a chain: a refusal is the call's answer, and else the call tells what comes next
-module _ {f : Told → Told} (stage : Stage f) (verdict : Admission) (e : admission verdict ≡ f (answer [])) where
-  pub told-refused : (why : Refusal) (next : Told) → verdict ≡ Admission.Refused why → refused why ≡ f next
-  told-refused why next h = sym (refused-alike stage (sym (ap admission (sym h) ∙ e)) next)
+-- judgment is what the code was told of a chain: a refusal is the call's answer, and else the call tells what comes next
+module _ {f : Told → Told} (stage : Stage f) {T : Type 0} {judgment : Result T Refusal} (e : verdict judgment ≡ f (answer [])) where
+  pub told-refused : {why : Refusal} (next : Told) → judgment ≡ Err why → refused why ≡ f next
+  told-refused next h = sym (refused-alike stage (sym (ap verdict (sym h) ∙ e)) next)
 
-  pub told-next : verdict ≡ Admission.Admitted → (next : Told) {told : Told} → told ≡ next → told ≡ f next
-  told-next h next q = q ∙ sym (passed-alike stage (sym e ∙ ap admission h) next)
+  pub told-next : {passed : T} → judgment ≡ Ok passed → (next : Told) {told : Told} → told ≡ next → told ≡ f next
+  told-next h next q = q ∙ sym (passed-alike stage (sym e ∙ ap verdict h) next)

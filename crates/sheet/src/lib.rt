@@ -1,17 +1,18 @@
 // Admitting a sheet: refusals 1 to 6 of document 01, in the order of its table.
 #![tactic(auto)]
 
-ghost use Rattle.std.specs.Prelude.{◌≡◌, [], ◌+◌, ◌*◌, ◌^◌, ◌≤◌, leb, length, get_or, take, drop};
+ghost use Rattle.std.specs.Prelude.{◌≡◌, [], ◌+◌, ◌*◌, ◌^◌, ◌≤◌, leb, length, get_or, take, drop, IfOk};
 ghost use Rattle.paper.specs.First.{first};
-ghost use Rattle.paper.specs.Refusals.{answer, admission};
-ghost use Rattle.paper.specs.Sheet.{sheet, shaped, wanted, off, judged_sums, judged_rows, admits};
+ghost use Rattle.paper.specs.Refusals.{answer, verdict};
+ghost use Rattle.paper.specs.Sheet.{r, G1, G0, H, M, shaped, wanted, off, judged_sums, judged_rows, admits};
 ghost use Rattle.paper.specs.Words.{width};
 ghost use Rattle.words.specs.Places.{as_first};
 ghost use Rattle.sheet.specs.Sound.{Shaped};
 
 use elimination::first_dependent;
-use paper::{Admission, Refusal, WIDTH, Word};
-use words::{Place, is_low, product_of};
+use paper::{Refusal, Sheet, WIDTH, Word};
+use std::marker::Model;
+use words::{is_low, product_of};
 
 // The rows from `from` on, `count` of them: one of the sheet's four parts.
 pub fn part(rows: &[Word], from: u32, count: u32) -> &[Word]
@@ -24,40 +25,28 @@ pub fn part(rows: &[Word], from: u32, count: u32) -> &[Word]
 }
 
 // "k ≥ 1, k + l ≤ n, the lent rows are n + k in number", and n is 1 to the width. n, k and l are any numbers: no sum is taken that could wrap.
-pub fn is_shaped(n: u32, k: u32, l: u32, rows: &[Word]) -> bool
-    ensures { result ≡ shaped (sheet n k l rows.now) }
+pub fn is_shaped(sheet: &Sheet) -> bool
+    ensures { result ≡ shaped sheet.now }
 {
-    if n < 1 {
-        return false;
-    }
-    if WIDTH < n {
-        return false;
-    }
-    if k < 1 {
-        return false;
-    }
-    if n < k {
-        return false;
-    }
-    if n - k < l {
-        return false;
-    }
-    rows.len() == (n + k) as usize
+    1 <= sheet.n
+        && sheet.n <= WIDTH
+        && 1 <= sheet.k
+        && sheet.k <= sheet.n
+        && sheet.l <= sheet.n - sheet.k
+        && sheet.rows.len() == (sheet.n + sheet.k) as usize
 }
 
 // The first row that "has a bit at cell n or above".
-pub fn find_stray(n: u32, rows: &[Word]) -> Place
+pub fn find_stray(n: u32, rows: &[Word]) -> Option<u32>
     requires { (n ≤ width) × (length rows.now ≤ 2 * width) }
     ensures { as_first result ≡ first (length rows.now) (λ i. leb (2 ^ n) (get_or rows.now i 0)) }
 {
-    let mut i = 0;
-    while i < rows.len() {
-        if !is_low(n, rows[i]) {
-            return Place::At(i as u32);
+    for (i, row) in rows.iter().enumerate() {
+        if !is_low(n, *row) {
+            return Some(i as u32);
         }
-        i += 1;
     }
-    Place::Nowhere
+    None
 }
 
 // The product wanted of row i with row j of the others.
@@ -68,65 +57,129 @@ fn wanted_of(own: Word, i: usize, j: usize) -> Word
 }
 
 // "the first row in sheet order at which the rule breaks": the loops over the rows of G and of H or M are left at the first breaking pair.
-fn find_off(own: Word, gs: &[Word], others: &[Word]) -> Place
+fn find_off(own: Word, gs: &[Word], others: &[Word]) -> Option<u32>
     requires { length gs.now ≤ width }
     ensures { as_first result ≡ first (length gs.now) (off own gs.now others.now) }
 {
-    let mut i = 0;
-    'rows: loop {
-        if gs.len() <= i {
-            break 'rows Place::Nowhere;
-        }
-        for j in 0..others.len() {
-            if product_of(gs[i], others[j]) != wanted_of(own, i, j) {
-                break 'rows Place::At(i as u32);
+    'rows: {
+        for (i, g) in gs.iter().enumerate() {
+            for (j, other) in others.iter().enumerate() {
+                if product_of(*g, *other) != wanted_of(own, i, j) {
+                    break 'rows Some(i as u32);
+                }
             }
         }
-        i += 1;
+        None
     }
 }
 
 // Rules 5 and 6: "no row of G0 is a sum of earlier rows of G0 .., and the same for H".
-fn judge_sums(n: u32, k: u32, l: u32, rows: &[Word]) -> Admission
-    requires { Shaped (sheet n k l rows.now) }
-    ensures { admission result ≡ judged_sums (sheet n k l rows.now) (answer []) }
+fn judge_sums(sheet: &Sheet) -> Result<(), Refusal>
+    requires { Shaped sheet.now }
+    ensures { verdict result ≡ judged_sums sheet.now (answer []) }
 {
-    let g = k + l;
-    if let Place::At(j) = first_dependent(part(rows, k, l)) {
-        return Admission::Refused(Refusal::DependentG0 { row: k + j });
+    let k = sheet.k;
+    let g = k + sheet.l;
+    if let Some(j) = first_dependent(part(sheet.rows, k, sheet.l)) {
+        return Err(Refusal::DependentG0 { row: k + j });
     }
-    if let Place::At(j) = first_dependent(part(rows, g, n - g)) {
-        return Admission::Refused(Refusal::DependentH { row: g + j });
+    if let Some(j) = first_dependent(part(sheet.rows, g, sheet.n - g)) {
+        return Err(Refusal::DependentH { row: g + j });
     }
-    Admission::Admitted
+    Ok(())
 }
 
-// Rules 2 to 4, each "tried on all rows before the next rule", and then the sums.
-fn judge_rows(n: u32, k: u32, l: u32, rows: &[Word]) -> Admission
-    requires { Shaped (sheet n k l rows.now) }
-    ensures { admission result ≡ judged_rows (sheet n k l rows.now) (answer []) }
+// Rules 2 to 4, each "tried on all rows before the next rule".
+fn judge_rows(sheet: &Sheet) -> Result<(), Refusal>
+    requires { Shaped sheet.now }
+    ensures { verdict result ≡ judged_rows sheet.now (answer []) }
 {
-    let g = k + l;
-    if let Place::At(row) = find_stray(n, rows) {
-        return Admission::Refused(Refusal::Stray { row });
+    let g = sheet.k + sheet.l;
+    if let Some(row) = find_stray(sheet.n, sheet.rows) {
+        return Err(Refusal::Stray { row });
     }
-    let gs = part(rows, 0, g);
-    if let Place::At(row) = find_off(0, gs, part(rows, g, n - g)) {
-        return Admission::Refused(Refusal::OffCode { row });
+    let gs = part(sheet.rows, 0, g);
+    if let Some(row) = find_off(0, gs, part(sheet.rows, g, sheet.n - g)) {
+        return Err(Refusal::OffCode { row });
     }
-    if let Place::At(row) = find_off(1, gs, part(rows, n, k)) {
-        return Admission::Refused(Refusal::OffMessage { row });
+    if let Some(row) = find_off(1, gs, part(sheet.rows, sheet.n, sheet.k)) {
+        return Err(Refusal::OffMessage { row });
     }
-    judge_sums(n, k, l, rows)
+    judge_sums(sheet)
+}
+
+// A sheet that was admitted: its value is the sheet, and each fact of `Sound` holds of it.
+#[derive(Drop)]
+pub struct Admitted<'a> {
+    pub n: u32,
+    pub k: u32,
+    pub l: u32,
+    pub rows: &'a [Word],
+}
+
+impl<'a> Model for Admitted<'a> {
+    ghost use Rattle.paper.specs.Sheet.{Sheet, sheet};
+    ghost use Rattle.sheet.specs.Sound.{Sound};
+
+    ghost Value = { Sheet };
+
+    ghost view = { λ s. sheet s.n s.k s.l s.rows.now };
+
+    ghost invariant = { λ s. Sound (sheet s.n s.k s.l s.rows.now) };
+}
+
+impl<'a> Admitted<'a> {
+    // "k rows of G1"
+    pub fn g1(&self) -> &'a [Word]
+        ensures rows { result.now ≡ G1 self.now }
+        ensures count { length result.now ≡ self.now.k }
+        ensures few { length result.now ≤ width }
+    {
+        part(self.rows, 0, self.k)
+    }
+
+    // "l rows of G0"
+    pub fn g0(&self) -> &'a [Word]
+        ensures rows { result.now ≡ G0 self.now }
+        ensures count { length result.now ≡ self.now.l }
+        ensures few { length result.now ≤ width }
+    {
+        part(self.rows, self.k, self.l)
+    }
+
+    // "r rows of H"
+    pub fn h(&self) -> &'a [Word]
+        ensures rows { result.now ≡ H self.now }
+        ensures count { length result.now ≡ r self.now }
+        ensures few { length result.now ≤ width }
+    {
+        let g = self.k + self.l;
+        part(self.rows, g, self.n - g)
+    }
+
+    // "k rows of M (the message inverse)"
+    pub fn m(&self) -> &'a [Word]
+        ensures rows { result.now ≡ M self.now }
+        ensures count { length result.now ≡ self.now.k }
+        ensures few { length result.now ≤ width }
+    {
+        part(self.rows, self.n, self.k)
+    }
 }
 
 // Whether the sheet is admitted, or the first rule that it breaks and where.
-pub fn admit(n: u32, k: u32, l: u32, rows: &[Word]) -> Admission
-    ensures { admission result ≡ admits (sheet n k l rows.now) }
+pub fn admit<'a>(sheet: &Sheet<'a>) -> Result<Admitted<'a>, Refusal>
+    ensures told { verdict result ≡ admits sheet.now }
+    ensures same { IfOk result (λ s. s ≡ sheet.now) }
 {
-    if is_shaped(n, k, l, rows) {
-        judge_rows(n, k, l, rows)
-    } else {
-        Admission::Refused(Refusal::Shape)
+    if !is_shaped(sheet) {
+        return Err(Refusal::Shape);
     }
+    judge_rows(sheet)?;
+    Ok(Admitted {
+        n: sheet.n,
+        k: sheet.k,
+        l: sheet.l,
+        rows: sheet.rows,
+    })
 }

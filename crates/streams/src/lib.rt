@@ -2,7 +2,7 @@
 // other failure ends the reading or writing, and can be told on standard error.
 #![tactic(auto)]
 
-ghost use Rattle.std.specs.Prelude.{◌≤◌, ◌<◌, ◌≡◌, true, false, [], ◌∷◌, length, take, OnOk};
+ghost use Rattle.std.specs.Prelude.{◌≤◌, ◌<◌, ◌≡◌, true, false, [], ◌∷◌, length, take, IfSome, OnOk};
 ghost use Rattle.std.specs.Io.{ReadsAtMost, WritesAtMost};
 ghost use Rattle.std.specs.Io.KnownBytes.{Appends, Consumes, IsAtEnd, ReadConsumes, WriteAppends};
 ghost use Rattle.std.specs.Process.{exit_status};
@@ -33,52 +33,41 @@ fn read_some<R: Read>(from: &mut R, input: &mut [u8]) -> std::io::Result<usize>
     from.read(input)
 }
 
-// What a read left: how many bytes of the input, whether they are the last, and whether the input ended well.
+// A piece of the input: how many bytes of the room it has, and whether it is the last.
 #[derive(Clone, Copy)]
-pub struct Got {
+pub struct Piece {
     pub count: usize,
     pub last: bool,
-    pub good: bool,
 }
 
 // Reads a piece of the input. Where the input ends, a newline is its last piece, so that a last line without one ends too. A failure is told on
-// standard error, under the given name, and ends the input with no piece: what came before it is not taken for a line.
+// standard error, under the given name, and is no piece: what came before it is not taken for a line.
 pub fn read_piece<R: Read, W: Write>(
     rt: &impl Alloc,
     from: &mut R,
     errors: &mut W,
     input: &mut [u8],
     name: &[u8],
-) -> Got
+) -> Option<Piece>
     requires { 0 < length input.old }
-    ensures count_in_bounds { result.count ≤ length input.new }
-    ensures count_value { result.good ≡ false → result.count ≡ 0 }
-    ensures input_after { result.last ≡ true → result.good ≡ true → take result.count input.new ≡ 10 ∷ [] }
-    ensures piece { result.last ≡ false → Consumes (R.remaining from.old) (R.remaining from.new) (take result.count input.new) }
-    ensures end { result.last ≡ true → result.good ≡ true → IsAtEnd (R.remaining from.old) }
+    ensures count_in_bounds { IfSome result (λ piece. piece.count ≤ length input.new) }
+    ensures input_after { IfSome result (λ piece. piece.last ≡ true → take piece.count input.new ≡ 10 ∷ []) }
+    ensures piece { IfSome result (λ piece. piece.last ≡ false → Consumes (R.remaining from.old) (R.remaining from.new) (take piece.count input.new)) }
+    ensures end { IfSome result (λ piece. piece.last ≡ true → IsAtEnd (R.remaining from.old)) }
 {
     match read_some(from, input) {
         Err(error) => {
             tell_failure(rt, errors, name, &error);
-            Got {
-                count: 0,
-                last: true,
-                good: false,
-            }
+            None
         }
         Ok(0) => {
             input[0] = b'\n';
-            Got {
+            Some(Piece {
                 count: 1,
                 last: true,
-                good: true,
-            }
+            })
         }
-        Ok(count) => Got {
-            count,
-            last: false,
-            good: true,
-        },
+        Ok(count) => Some(Piece { count, last: false }),
     }
 }
 
@@ -100,13 +89,13 @@ fn write_some<W: Write>(to: &mut W, bytes: &[u8]) -> std::io::Result<usize>
 pub fn write_all<W: Write>(to: &mut W, bytes: &[u8]) -> std::io::Result<()>
     ensures { OnOk result (Appends (W.contents to.old) (W.contents to.new) bytes.now) }
 {
-    let mut done = 0;
-    while done < bytes.len() {
-        let count = write_some(to, &bytes[done..])?;
+    let mut rest = bytes;
+    while !rest.is_empty() {
+        let count = write_some(to, rest)?;
         if count == 0 {
             return Err(Error::from(ErrorKind::WriteZero));
         }
-        done += count;
+        rest = &rest[count..];
     }
     Ok(())
 }

@@ -4,16 +4,14 @@
 
 ghost use Rattle.std.specs.Prelude.{map, ◌≡◌, ◌+◌, ◌≤◌, length};
 ghost use Rattle.paper.specs.Refusals.{outcome, leaves};
-ghost use Rattle.paper.specs.Sheet.{sheet};
 ghost use Rattle.paper.specs.Tables.{cells, table_p, table_r, table_q, gives_admitted, gives};
 ghost use Rattle.paper.specs.Words.{width};
 ghost use Rattle.blocks.specs.Counts.{Counted};
-ghost use Rattle.sheet.specs.Sound.{Sound};
 ghost use Rattle.tables.specs.Identities.{identity_at};
 
 use blocks::{cells_of, is_tabled};
-use paper::{Admission, Outcome, Refusal, Word};
-use sheet::{admit, part};
+use paper::{Outcome, Refusal, Sheet, Word};
+use sheet::{Admitted, admit};
 use words::cell_of;
 
 // Whether the rows have an identity in the cells from `from` on, `count` of them.
@@ -21,12 +19,11 @@ fn is_identity(from: u32, count: u32, rows: &[Word]) -> bool
     requires { length rows.now ≤ width }
     ensures { result ≡ identity_at from count rows.now }
 {
-    let mut i = 0;
-    while i < rows.len() {
-        if cells_of(from, count, rows[i]) != cell_of(i as u32) {
+    // A `for`: a chain of `all` proved too, but there the edit that reads row 0 was refused at the same goal as a right closure that reads `rows[i]`, and so showed nothing.
+    for (i, row) in rows.iter().enumerate() {
+        if cells_of(from, count, *row) != cell_of(i as u32) {
             return false;
         }
-        i += 1;
     }
     true
 }
@@ -36,64 +33,47 @@ fn put_cells(from: u32, count: u32, rows: &[Word], room: &mut [Word])
     requires { length room.old ≡ length rows.now }
     ensures { room.new ≡ map (cells from count) rows.now }
 {
-    let mut i = 0;
-    while i < rows.len() {
-        room[i] = cells_of(from, count, rows[i]);
-        i += 1;
+    // By the row's number: after a `zip` over `room.iter_mut()` a proof knows the room's length and none of its places.
+    for (i, place) in room.iter_mut().enumerate() {
+        *place = cells_of(from, count, rows[i]);
     }
 }
 
 // The tables of an admitted sheet: 24, or the tables in the rooms. G1 is [I 0 P] if its first k + l cells are [I 0], and G0 is [R I Q] if the next l after k are I.
-fn give(
-    n: u32,
-    k: u32,
-    l: u32,
-    rows: &[Word],
-    p: &mut [Word],
-    r: &mut [Word],
-    q: &mut [Word],
-) -> Outcome
-    requires { Sound (sheet n k l rows.now) × Counted k l (length p.old) (length r.old) (length q.old) }
-    ensures result_value { outcome result ≡ gives_admitted (sheet n k l rows.now) }
-    ensures p_after { p.new ≡ leaves (gives_admitted (sheet n k l rows.now)) (table_p (sheet n k l rows.now)) p.old }
-    ensures r_after { r.new ≡ leaves (gives_admitted (sheet n k l rows.now)) (table_r (sheet n k l rows.now)) r.old }
-    ensures q_after { q.new ≡ leaves (gives_admitted (sheet n k l rows.now)) (table_q (sheet n k l rows.now)) q.old }
+fn give(sheet: &Admitted, p: &mut [Word], r: &mut [Word], q: &mut [Word]) -> Outcome
+    requires { Counted sheet.now.k sheet.now.l (length p.old) (length r.old) (length q.old) }
+    ensures result_value { outcome result ≡ gives_admitted sheet.now }
+    ensures p_after { p.new ≡ leaves (gives_admitted sheet.now) (table_p sheet.now) p.old }
+    ensures r_after { r.new ≡ leaves (gives_admitted sheet.now) (table_r sheet.now) r.old }
+    ensures q_after { q.new ≡ leaves (gives_admitted sheet.now) (table_q sheet.now) q.old }
 {
-    let g = k + l;
-    let g1 = part(rows, 0, k);
+    let g = sheet.k + sheet.l;
+    let g1 = sheet.g1();
     if !is_identity(0, g, g1) {
         return Outcome::Refused(Refusal::OtherShape);
     }
-    let g0 = part(rows, k, l);
-    if !is_identity(k, l, g0) {
+    let g0 = sheet.g0();
+    if !is_identity(sheet.k, sheet.l, g0) {
         return Outcome::Refused(Refusal::OtherShape);
     }
-    put_cells(g, n - g, g1, p);
-    put_cells(0, k, g0, r);
-    put_cells(g, n - g, g0, q);
+    put_cells(g, sheet.n - g, g1, p);
+    put_cells(0, sheet.k, g0, r);
+    put_cells(g, sheet.n - g, g0, q);
     Outcome::Done
 }
 
 // Gives the tables of an admitted sheet of the shape back, in the lent rooms: refusals 1, also for the rooms, to 6, then 24. A refusal leaves the rooms as they were.
-pub fn tables(
-    n: u32,
-    k: u32,
-    l: u32,
-    rows: &[Word],
-    p: &mut [Word],
-    r: &mut [Word],
-    q: &mut [Word],
-) -> Outcome
-    ensures result_value { outcome result ≡ gives (sheet n k l rows.now) (length p.old) (length r.old) (length q.old) }
-    ensures p_after { p.new ≡ leaves (gives (sheet n k l rows.now) (length p.old) (length r.old) (length q.old)) (table_p (sheet n k l rows.now)) p.old }
-    ensures r_after { r.new ≡ leaves (gives (sheet n k l rows.now) (length p.old) (length r.old) (length q.old)) (table_r (sheet n k l rows.now)) r.old }
-    ensures q_after { q.new ≡ leaves (gives (sheet n k l rows.now) (length p.old) (length r.old) (length q.old)) (table_q (sheet n k l rows.now)) q.old }
+pub fn tables(sheet: &Sheet, p: &mut [Word], r: &mut [Word], q: &mut [Word]) -> Outcome
+    ensures result_value { outcome result ≡ gives sheet.now (length p.old) (length r.old) (length q.old) }
+    ensures p_after { p.new ≡ leaves (gives sheet.now (length p.old) (length r.old) (length q.old)) (table_p sheet.now) p.old }
+    ensures r_after { r.new ≡ leaves (gives sheet.now (length p.old) (length r.old) (length q.old)) (table_r sheet.now) r.old }
+    ensures q_after { q.new ≡ leaves (gives sheet.now (length p.old) (length r.old) (length q.old)) (table_q sheet.now) q.old }
 {
-    if !is_tabled(k, l, p.len(), r.len(), q.len()) {
+    if !is_tabled(sheet.k, sheet.l, p.len(), r.len(), q.len()) {
         return Outcome::Refused(Refusal::Shape);
     }
-    match admit(n, k, l, rows) {
-        Admission::Refused(why) => Outcome::Refused(why),
-        Admission::Admitted => give(n, k, l, rows, p, r, q),
+    match admit(sheet) {
+        Ok(admitted) => give(&admitted, p, r, q),
+        Err(why) => Outcome::Refused(why),
     }
 }

@@ -2,11 +2,12 @@
 use Rattle.std.specs.Prelude.{List, ◌++◌, ℕ, ◌+◌, length}
 use Rattle.paper.specs.Refusals.{Told, leaves}
 use Rattle.paper.specs.Sheet.{Sheet}
-use Rattle.paper.specs.Tables.{built, builds, table_p, table_r, table_q, gives}
+use Rattle.paper.specs.Tables.{Tables, tables, table_p, table_r, table_q, gives}
 use Rattle.text.specs.Bytes.{bytes}
 use Rattle.lines.specs.Arguments.{at, part, sheet_in, behind}
 use Rattle.answers.specs.Answers.{spoken, listed}
 use Rattle.rooms.specs.Lent.{room_at}
+use Rattle.building.specs.Handed.{built_of, builds_of}
 
 -- ---- `tosheet n k l LIST LIST LIST ROOM`
 
@@ -29,14 +30,14 @@ abbrev pub line_q : List ℕ → List ℕ
 line_q ns = part (end_r ns + 1) (end_q ns) ns
 
 -- what building tells of tables, a room being lent, and the room after it: the text of the answer ends with that room
-abbrev pub sheet_text : ℕ → ℕ → ℕ → List ℕ → List ℕ → List ℕ → List ℕ → List ℕ
-sheet_text n k l P R Q room =
-    let told = builds n k l P R Q room in
-    spoken (bytes "done") told ++ listed (bytes " room ") (leaves told (built n k l P R Q) room)
+abbrev pub sheet_text : Tables → List ℕ → List ℕ
+sheet_text t room =
+    let told = builds_of t room in
+    spoken (bytes "done") told ++ listed (bytes " room ") (leaves told (built_of t) room)
 
 -- the answer to a line
 abbrev pub tosheet_text : List ℕ → List ℕ
-tosheet_text ns = sheet_text (at ns 0) (at ns 1) (at ns 2) (line_p ns) (line_r ns) (line_q ns) (room_at (end_q ns) ns)
+tosheet_text ns = sheet_text (tables (at ns 0) (at ns 1) (at ns 2) (line_p ns) (line_r ns) (line_q ns)) (room_at (end_q ns) ns)
 
 -- ---- `totables SHEET ROOM ROOM ROOM`
 

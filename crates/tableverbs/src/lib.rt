@@ -2,7 +2,6 @@
 #![tactic(auto)]
 
 ghost use Rattle.std.specs.Prelude.{◌+◌, ◌*◌, ◌≤◌, length};
-ghost use Rattle.paper.specs.Sheet.{sheet};
 ghost use Rattle.text.specs.Bytes.{bytes};
 ghost use Rattle.text.specs.Puts.{Put};
 ghost use Rattle.told.specs.Telling.{tells};
@@ -10,26 +9,17 @@ ghost use Rattle.lines.specs.Shapes.{Stands, most_room};
 ghost use Rattle.tableverbs.specs.Tabling.{sheet_text, rooms_text, tables_text, tosheet_text, totables_text};
 
 use answers::{say, say_list};
-use paper::Word;
-use rooms::{list_at, room_at, room_of};
-use told::{Numbers, of_outcome};
+use paper::{Sheet, Tables, Word};
+use rooms::{list_at, room_at, room_of, sheet_of};
+use told::Numbers;
 
 // Builds the sheet of the tables in a lent room, and puts the answer, which ends with the room.
-fn build_in(
-    n: u32,
-    k: u32,
-    l: u32,
-    p: &[Word],
-    r: &[Word],
-    q: &[Word],
-    room: &mut [Word],
-    out: &mut [u8],
-) -> usize
+fn build_in(tables: &Tables, room: &mut [Word], out: &mut [u8]) -> usize
     requires { 130 + 21 * length room.old ≤ length out.old }
-    ensures put { Put out.old 0 (sheet_text n k l p.now r.now q.now room.old) result out.new }
+    ensures put { Put out.old 0 (sheet_text tables.now room.old) result out.new }
     ensures upper_bound { result ≤ 130 + 21 * length room.old }
 {
-    let told = of_outcome(building::build(n, k, l, p, r, q, room));
+    let told = Numbers::from(building::build(tables, room));
     let said = say(out, 0, b"done", told);
     say_list(out, said, b" room ", room)
 }
@@ -47,16 +37,15 @@ pub fn tosheet(ns: &[Word], out: &mut [u8]) -> usize
     let asked = room_at(ns, at);
     let size = asked.size;
     let mut room = room_of(asked.fill);
-    build_in(
-        ns[0] as u32,
-        ns[1] as u32,
-        ns[2] as u32,
-        list_at(ns, 3),
-        list_at(ns, at_r),
-        list_at(ns, at_q),
-        &mut room[..size],
-        out,
-    )
+    let tables = Tables {
+        n: ns[0] as u32,
+        k: ns[1] as u32,
+        l: ns[2] as u32,
+        p: list_at(ns, 3),
+        r: list_at(ns, at_r),
+        q: list_at(ns, at_q),
+    };
+    build_in(&tables, &mut room[..size], out)
 }
 
 // Puts what asking for tables told, and the rooms behind it.
@@ -72,21 +61,12 @@ fn say_tables(told: Numbers, p: &[Word], r: &[Word], q: &[Word], out: &mut [u8])
 }
 
 // Gives the tables of a sheet in lent rooms, and puts the answer, which ends with the rooms.
-fn give_in(
-    n: u32,
-    k: u32,
-    l: u32,
-    rows: &[Word],
-    p: &mut [Word],
-    r: &mut [Word],
-    q: &mut [Word],
-    out: &mut [u8],
-) -> usize
+fn give_in(sheet: &Sheet, p: &mut [Word], r: &mut [Word], q: &mut [Word], out: &mut [u8]) -> usize
     requires { 173 + 21 * (length p.old + length r.old + length q.old) ≤ length out.old }
-    ensures put { Put out.old 0 (tables_text (sheet n k l rows.now) p.old r.old q.old) result out.new }
+    ensures put { Put out.old 0 (tables_text sheet.now p.old r.old q.old) result out.new }
     ensures upper_bound { result ≤ 173 + 21 * (length p.old + length r.old + length q.old) }
 {
-    let told = of_outcome(tables::tables(n, k, l, rows, p, r, q));
+    let told = Numbers::from(tables::tables(sheet, p, r, q));
     say_tables(told, p, r, q, out)
 }
 
@@ -108,10 +88,7 @@ pub fn totables(ns: &[Word], out: &mut [u8]) -> usize
     let mut r = room_of(for_r.fill);
     let mut q = room_of(for_q.fill);
     give_in(
-        ns[0] as u32,
-        ns[1] as u32,
-        ns[2] as u32,
-        list_at(ns, 3),
+        &sheet_of(ns),
         &mut p[..size_p],
         &mut r[..size_r],
         &mut q[..size_q],

@@ -3,19 +3,19 @@
 use mathlib.Core.Path.{◌≡◌, refl, sym, ap, ap₂, ◌∙◌, subst}
 use mathlib.Core.Bool.{Bool, true, false}
 use mathlib.Core.List.{List, [], ◌∷◌, ◌++◌, append_assoc}
-use Prim.Native.Nat.{ℕ, suc, ◌+◌, ◌≤◌, ◌<◌, min}
+use Prim.Native.Nat.{ℕ, suc, ◌+◌, ◌<◌}
+use native.Mathlib.Numerals.{add-one}
 use native.Mathlib.Omega.{arith}
-use lib.Dec.{eqb, ltb}
-use lib.ListN.{length, take, drop, length-drop, drop_of_length-le, take-append-drop}
-use lib.Seq.{drop-drop, take_all, length-take-le}
-use borrow.Author.Tests.{ltb-true, ltb-false}
+use lib.Dec.{eqb}
+use lib.ListN.{length, take, drop}
+use lib.Seq.{take_all}
 use Rattle.text.specs.Tokens.{up_to, Whole, led, cut}
 use Rattle.text.proofs.Tokens.{pieces, up_to-take}
 use Rattle.text.proofs.Pieces.{whole-nil, whole_join, whole_take, up_to-whole, up_to-split, cut-some, cut-front, cut-stop}
 use Rattle.lines.specs.Lines.{Asked, asked, room_line}
 use Rattle.lines.proofs.Lines.{asked-held}
 use Rattle.verbs.specs.Replies.{table, reply}
-use Rattle.talk.specs.Talk.{replies, talk, Stepped, Answered, Rooms}
+use Rattle.talk.specs.Talk.{replies, talk, Stepped, Answered}
 
 replies-cons : (line : List ℕ) (lines : List (List ℕ)) → replies (line ∷ lines) ≡ reply (asked table line) ++ replies lines
 unfolding replies
@@ -65,76 +65,56 @@ module _ (room : ℕ) (wide : 1 + room_line < room) where
       ap replies (cut-front 10 line xs t ts w first.2) ∙ replies-cons (line ++ t) ts ∙ ap (λ (a : Asked). reply a ++ replies ts) same
       ∙ sym (replies-cons (take room line ++ t) ts) ∙ sym (ap replies (cut-front 10 (take room line) xs t ts (whole_take 10 room line w) first.2))
 
-  -- the bytes of the input from a place on, behind what is held of a line
-  module _ (begun input : List ℕ) (from : ℕ) (w : Whole 10 begun) where
+  -- the input, behind what is held of a line
+  module _ (begun input : List ℕ) (w : Whole 10 begun) where
     abbrev seg : List ℕ
-    seg = up_to 10 (drop from input)
+    seg = up_to 10 input
 
     -- what is held has no newline
     pub held_whole : Whole 10 (take room (begun ++ seg))
-    held_whole = whole_take 10 room (begun ++ seg) (whole_join 10 begun seg w (up_to-whole 10 (drop from input)))
+    held_whole = whole_take 10 room (begun ++ seg) (whole_join 10 begun seg w (up_to-whole 10 input))
 
     -- the line ends
-    pub line-ends : from + length seg < length input → (later : List ℕ)
-        → talk (begun ++ (drop from input ++ later)) ≡ reply (asked table (take room (begun ++ seg))) ++ talk (drop (from + length seg + 1) input ++ later)
+    pub line-ends : length seg < length input → (later : List ℕ)
+        → talk (begun ++ (input ++ later)) ≡ reply (asked table (take room (begun ++ seg))) ++ talk (drop (suc (length seg)) input ++ later)
     line-ends h later =
-        let rest : List ℕ = drop (suc (length seg)) (drop from input) in
-        let split = up_to-split 10 (drop from input) (omega (arith, length-drop from input)) in
-        let behind : rest ≡ drop (from + length seg + 1) input =
-        drop-drop (suc (length seg)) from input ∙ ap (λ (k : ℕ). drop k input) (let e : from + suc (length seg) ≡ from + length seg + 1 = omega arith in e) in
-        ap (λ (l : List ℕ). talk (begun ++ (l ++ later))) split
+        let rest : List ℕ = drop (suc (length seg)) input in
+        ap (λ (l : List ℕ). talk (begun ++ (l ++ later))) (up_to-split 10 input h)
         ∙ ap (λ (l : List ℕ). talk (begun ++ l)) (append_assoc seg (10 ∷ rest) later)
         ∙ ap talk (sym (append_assoc begun seg (10 ∷ (rest ++ later))))
-        ∙ talk-line (begun ++ seg) (rest ++ later) (whole_join 10 begun seg w (up_to-whole 10 (drop from input)))
-        ∙ ap₂ (λ (a : Asked) (l : List ℕ). reply a ++ talk (l ++ later)) (sym (asked-held table room wide (begun ++ seg))) behind
+        ∙ talk-line (begun ++ seg) (rest ++ later) (whole_join 10 begun seg w (up_to-whole 10 input))
+        ∙ ap (λ (a : Asked). reply a ++ talk (rest ++ later)) (sym (asked-held table room wide (begun ++ seg)))
 
     -- the line does not end
-    pub line_stays : length input ≤ from + length seg → (later : List ℕ)
-        → talk (begun ++ (drop from input ++ later)) ≡ talk (take room (begun ++ seg) ++ later)
+    pub line_stays : length seg ≡ length input → (later : List ℕ) → talk (begun ++ (input ++ later)) ≡ talk (take room (begun ++ seg) ++ later)
     line_stays h later =
-        let all : drop from input ≡ seg =
-        sym (take_all (length seg) (drop from input) (omega (arith, length-drop from input))) ∙ up_to-take 10 (drop from input) in
+        let all : input ≡ seg = sym (take_all (length seg) input (omega arith)) ∙ up_to-take 10 input in
         ap (λ (l : List ℕ). talk (begun ++ (l ++ later))) all ∙ ap talk (sym (append_assoc begun seg later))
-        ∙ talk-held (begun ++ seg) later (whole_join 10 begun seg w (up_to-whole 10 (drop from input)))
+        ∙ talk-held (begun ++ seg) later (whole_join 10 begun seg w (up_to-whole 10 input))
 
     -- a step, by what `take_line` ensures
-    module _ {ended : Bool} {next : ℕ} {held : List ℕ} (is : ended ≡ ltb (from + length (up_to 10 (drop from input))) (length input))
-        (goes : next ≡ min (length input) (from + length (up_to 10 (drop from input)) + 1)) (holds : held ≡ take room (begun ++ up_to 10 (drop from input))) where
+    module _ {held : List ℕ} (holds : held ≡ take room (begun ++ up_to 10 input)) where
       -- the line goes on: no text, and its bytes are held
-      pub step_stays : ended ≡ false → Stepped begun (drop from input) [] held (drop next input)
-      step_stays e =
-          let far = ltb-false (from + length seg) (length input) (sym is ∙ e) in
-          let end : length input ≤ next = omega arith in
+      pub step_stays : length (up_to 10 input) ≡ length input → Stepped begun input [] held []
+      step_stays h =
           record {
-            same = λ later.
-                line_stays far later ∙ ap₂ (λ (l m : List ℕ). talk (l ++ (m ++ later))) (sym holds) (sym (drop_of_length-le input end));
+            same = λ later. line_stays h later ∙ ap (λ (l : List ℕ). talk (l ++ later)) (sym holds);
             whole = subst (Whole 10) (sym holds) held_whole;
           }
 
       -- the line ends: its answer, and nothing is held
-      pub step-ends : ended ≡ true → (text : List ℕ) → text ≡ reply (asked table held) → Stepped begun (drop from input) text [] (drop next input)
-      step-ends e text t =
-          let near = ltb-true (from + length seg) (length input) (sym is ∙ e) in
-          let behind : from + length seg + 1 ≡ next = omega arith in
+      pub step-ends : (rest text : List ℕ) → length (up_to 10 input) < length input → rest ≡ drop (length (up_to 10 input) + 1) input
+          → text ≡ reply (asked table held) → Stepped begun input text [] rest
+      step-ends rest text h r t =
+          let behind : drop (suc (length seg)) input ≡ rest = ap (λ (k : ℕ). drop k input) (sym (add-one (length seg))) ∙ sym r in
           record {
             same = λ later.
-                line-ends near later
-                ∙ ap₂ (λ (l : List ℕ) (k : ℕ). l ++ talk (drop k input ++ later)) (sym (t ∙ ap (λ (l : List ℕ). reply (asked table l)) holds)) behind;
+                line-ends h later
+                ∙ ap₂ (λ (l r : List ℕ). l ++ talk (r ++ later)) (sym (t ∙ ap (λ (l : List ℕ). reply (asked table l)) holds)) behind;
             whole = whole-nil 10;
           }
 
--- the room of a line, by what `take_line` ensures: what is held, and behind it what was there
-pub line-left : (line line' held : List ℕ) (n : ℕ) → n ≤ length line' → take n line' ≡ held → drop n line' ≡ drop n line
-    → (n ≡ length held) × (line' ≡ held ++ drop (length held) line)
-line-left line line' held n h t d =
-    let e : n ≡ length held = sym (length-take-le n line' h) ∙ ap length t in
-    (e, sym (take-append-drop n line') ∙ ap₂ ◌++◌ t (d ∙ ap (λ (k : ℕ). drop k line) e))
-
 -- ---- steps, one after the other
-
--- before the first
-pub answered-none : (begun rest : List ℕ) → Whole 10 begun → Answered begun rest begun rest
-answered-none begun rest w = ([], record { same = λ later. refl; whole = w })
 
 -- one more: its text stands behind the texts before it
 pub answered-more : {begun rest begun' rest' text begun'' rest'' : List ℕ} → Answered begun rest begun' rest' → Stepped begun' rest' text begun'' rest''
@@ -146,8 +126,3 @@ answered-more {text = text} {begun'' = begun''} {rest'' = rest''} (before, s) t 
     whole = t.whole;
   },
 )
-
--- rooms of the same lengths
-pub rooms-kept : {line ns out line' ns' out' : List ℕ} → length line' ≡ length line → length ns' ≡ length ns → length out' ≡ length out → Rooms line ns out
-    → Rooms line' ns' out'
-rooms-kept l n o r = record { lines = omega arith; numbers = omega arith; answers = omega arith }

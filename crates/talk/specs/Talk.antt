@@ -1,5 +1,5 @@
 -- Talk: the answers to the whole input, and the steps through it.
-use Rattle.std.specs.Prelude.{◌≡◌, List, [], ◌∷◌, ◌++◌, Bool, cond, ℕ, ◌+◌, ◌*◌, ◌≤◌, ◌<◌, min, ltb, length, take, drop}
+use Rattle.std.specs.Prelude.{◌≡◌, List, [], ◌∷◌, ◌++◌, Bool, cond, ℕ, ◌+◌, ◌*◌, ◌≤◌, ◌<◌, ltb, length, take, drop}
 use Rattle.text.specs.Tokens.{up_to, cut, Whole}
 use Rattle.text.specs.Puts.{Put}
 use Rattle.lines.specs.Lines.{asked, asked_in, room_line}
@@ -25,20 +25,20 @@ abbrev pub Answered : (begun rest begun' rest' : List ℕ) → Type 0
 Answered begun rest begun' rest' = (text : List ℕ) × Stepped begun rest text begun' rest'
 
 -- what is held of a line once the bytes up to the next newline were taken, as far as its room goes
-abbrev pub taken : List ℕ → ℕ → ℕ → List ℕ → List ℕ
-taken input from held line = take (length line) (take held line ++ up_to 10 (drop from input))
+abbrev pub taken : List ℕ → ℕ → List ℕ → List ℕ
+taken input held line = take (length line) (take held line ++ up_to 10 input)
 
 -- whether a newline ended it
-abbrev pub ends : List ℕ → ℕ → Bool
-ends input from = ltb (from + length (up_to 10 (drop from input))) (length input)
+abbrev pub ends : List ℕ → Bool
+ends input = ltb (length (up_to 10 input)) (length input)
 
 -- what a step leaves, to the last byte of each room
-pub record Left (input : List ℕ) (from held : ℕ) (line ns out : List ℕ) (r : Step) (line' ns' out' : List ℕ) : Type 0 where
-  pub goes : r.from ≡ min (length input) (from + length (up_to 10 (drop from input)) + 1)
-  pub holds : r.held ≡ cond (ends input from) 0 (length (taken input from held line))
-  pub lines : line' ≡ taken input from held line ++ drop (length (taken input from held line)) line
-  pub numbers : ns' ≡ cond (ends input from) (asked_in table (taken input from held line) ns) ns
-  pub says : Put out 0 (cond (ends input from) (reply (asked table (taken input from held line))) []) r.at out'
+pub record Left (input : List ℕ) (held : ℕ) (line ns out : List ℕ) (r : Step) (line' ns' out' : List ℕ) : Type 0 where
+  pub goes : r.rest.now ≡ drop (length (up_to 10 input) + 1) input
+  pub holds : r.held ≡ cond (ends input) 0 (length (taken input held line))
+  pub lines : line' ≡ taken input held line ++ drop (length (taken input held line)) line
+  pub numbers : ns' ≡ cond (ends input) (asked_in table (taken input held line) ns) ns
+  pub says : Put out 0 (cond (ends input) (reply (asked table (taken input held line))) []) r.at out'
 
 -- the rooms hold a line that is too long by a byte and its carriage return, the numbers of the longest call, and its answer
 pub record Rooms (line ns out : List ℕ) : Type 0 where

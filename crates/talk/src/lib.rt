@@ -1,7 +1,7 @@
 // The conversation: the answer to a line, and the steps through the input, however it is cut into pieces. Nothing here reads or writes.
 #![tactic(auto)]
 
-ghost use Rattle.std.specs.Prelude.{◌≡◌, ◌*◌, ◌≤◌, ◌<◌, length, take, drop};
+ghost use Rattle.std.specs.Prelude.{◌≡◌, ◌*◌, ◌≤◌, ◌<◌, length, take};
 ghost use Rattle.text.specs.Tokens.{Whole};
 ghost use Rattle.text.specs.Puts.{Put};
 ghost use Rattle.lines.specs.Lines.{asked, asked_in, room_line};
@@ -25,52 +25,47 @@ fn answer(line: &[u8], ns: &mut [Word], out: &mut [u8]) -> usize
     match ask(line, ns) {
         Line::Silent => 0,
         Line::Unknown => put(out, 0, b"unknown\n"),
-        Line::Call(verb, count) => {
+        Line::Call { verb, count } => {
             let end = reply(verb, &ns[..count], out);
             put(out, end, b"\n")
         }
     }
 }
 
-// What a step leaves: how many bytes are held of a line that has not ended, where the input goes on, and how many bytes the answer has.
+// What a step leaves: how many bytes are held of a line that has not ended, the input behind what was taken, and how many bytes the answer has.
 #[derive(Clone, Copy)]
-pub struct Step {
+pub struct Step<'a> {
     pub held: usize,
-    pub from: usize,
+    pub rest: &'a [u8],
     pub at: usize,
 }
 
 // Takes the bytes up to the next newline, and answers the line that it ends. More than a call may have is enough of a line to answer it, so
 // that no more is held than the room has.
-pub fn take_step(
-    input: &[u8],
-    from: usize,
+pub fn take_step<'a>(
+    input: &'a [u8],
     line: &mut [u8],
     held: usize,
     ns: &mut [Word],
     out: &mut [u8],
-) -> Step
-    requires from_in_bounds { from < length input.now }
+) -> Step<'a>
+    requires input_nonzero { 0 < length input.now }
     requires held_in_bounds { held ≤ length line.old }
     requires whole { Whole 10 (take held line.old) }
     requires rooms { Rooms line.old ns.old out.old }
-    ensures stepped { Stepped (take held line.old) (drop from input.now) (take result.at out.new) (take result.held line.new) (drop result.from input.now) }
-    ensures in_bounds { (from < result.from) × (result.from ≤ length input.now) × (result.held ≤ length line.old) × (result.at ≤ length out.old) }
-    ensures left { Left input.now from held line.old ns.old out.old result line.new ns.new out.new }
+    ensures stepped { Stepped (take held line.old) input.now (take result.at out.new) (take result.held line.new) result.rest.now }
+    ensures in_bounds { (length result.rest.now < length input.now) × (result.held ≤ length line.old) × (result.at ≤ length out.old) }
+    ensures left { Left input.now held line.old ns.old out.old result line.new ns.new out.new }
 {
-    let taken = take_line(input, from, line, held);
+    let taken = take_line(input, line, held);
     let held = taken.held;
-    if !taken.ended {
+    let Some(rest) = taken.rest else {
         return Step {
             held,
-            from: taken.from,
+            rest: &[],
             at: 0,
         };
-    }
+    };
     let at = answer(&line[..held], ns, out);
-    Step {
-        held: 0,
-        from: taken.from,
-        at,
-    }
+    Step { held: 0, rest, at }
 }

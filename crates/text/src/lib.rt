@@ -1,100 +1,59 @@
 // Bytes and numbers as text: where tokens end, numbers read and written, text behind text.
 #![tactic(auto)]
 
-ghost use Rattle.std.specs.Prelude.{◌≡◌, ◌++◌, ◌+◌, ◌≤◌, min, ltb, length, take, drop};
-ghost use Rattle.text.specs.Tokens.{up_to};
-ghost use Rattle.text.specs.Tokens.{same as Tokens·same};
+ghost use Rattle.std.specs.Prelude.{◌≡◌, ◌++◌, ◌+◌, ◌<◌, ◌≤◌, min, not, nat_eq, length, take, drop, take_while, MatchOption, [], ◌∷◌};
+ghost use Rattle.text.specs.Tokens.{up_to, cut};
 ghost use Rattle.text.specs.Numerals.{numeral};
 ghost use Rattle.text.specs.Puts.{decimal, Put};
 
-// What a token is as a number.
-#[derive(Clone, Copy)]
-pub enum Number {
-    Value(u64),
-    None,
-}
-
-// Where the first `stop` at or after `from` stands; the end of the bytes if there is none.
-pub fn end_of(bytes: &[u8], from: usize, stop: u8) -> usize
-    ensures { result ≡ from + length (up_to stop (drop from bytes.now)) }
+// How many bytes stand before the first `stop`.
+fn count_before(bytes: &[u8], stop: u8) -> usize
+    ensures { result ≡ length (take_while (λ b. not (nat_eq b stop)) bytes.now) }
 {
-    let mut at = from;
-    while at < bytes.len() {
-        if bytes[at] == stop {
-            return at;
-        }
-        at += 1;
-    }
-    at
+    bytes.iter().take_while(|byte| **byte != stop).count()
 }
 
-// The same bytes.
-pub fn same(a: &[u8], b: &[u8]) -> bool
-    ensures { result ≡ Tokens·same a.now b.now }
+// The first of the pieces between the stops, and the bytes behind its stop: None if no stop ends it.
+pub fn next_token(bytes: &[u8], stop: u8) -> (&[u8], Option<&[u8]>)
+    ensures token_value { result.0.now ≡ up_to stop bytes.now }
+    ensures rest_value { MatchOption result.1 (length result.0.now ≡ length bytes.now) (λ rest. (length result.0.now + 1 + length rest.now ≡ length bytes.now) × (rest.now ≡ drop (length result.0.now + 1) bytes.now)) }
+    ensures pieces { MatchOption result.1 (cut stop bytes.now ≡ result.0.now ∷ []) (λ rest. cut stop bytes.now ≡ result.0.now ∷ cut stop rest.now) }
 {
-    if a.len() != b.len() {
-        return false;
-    }
-    let mut i = 0;
-    while i < a.len() {
-        if a[i] != b[i] {
-            return false;
-        }
-        i += 1;
-    }
-    true
+    let (token, rest) = bytes.split_at(count_before(bytes, stop));
+    (token, rest.get(1..))
 }
 
-// Reads a token: one or more digits, of any length, whose value is no more than `most`. Nothing is multiplied that could go over.
-pub fn parse_number(token: &[u8], most: u64) -> Number
+// Reads a token: one or more digits, of any length, whose value is no more than `most`. A value that 64 bits do not hold is more.
+#[tactic(auto, using(crate::proofs::Numerals::turns))]
+pub fn parse_number(token: &[u8], most: u64) -> Option<u64>
     ensures { result ≡ numeral most token.now }
 {
-    if token.len() == 0 {
-        return Number::None;
+    if token.is_empty() {
+        return None;
     }
     let mut value: u64 = 0;
-    let mut i = 0;
-    while i < token.len() {
-        let byte = token[i] as u64;
-        if byte < 48 {
-            return Number::None;
-        }
-        if 57 < byte {
-            return Number::None;
-        }
-        if most / 10 < value {
-            return Number::None;
-        }
-        if most - value * 10 < byte - 48 {
-            return Number::None;
-        }
-        value = value * 10 + (byte - 48);
-        i += 1;
+    for byte in token {
+        let digit = match byte {
+            b'0'..=b'9' => u64::from(byte - b'0'),
+            _ => return None,
+        };
+        value = value.checked_mul(10)?.checked_add(digit)?;
     }
-    Number::Value(value)
-}
-
-// The smaller of two numbers.
-pub fn smaller(a: usize, b: usize) -> usize
-    ensures { result ≡ min a b }
-{
-    if a < b { a } else { b }
+    if value <= most { Some(value) } else { None }
 }
 
 // Puts bytes behind the first `used` of a room, as far as it goes: what does not fit is passed over.
+#[tactic(auto, using(crate::proofs::Tokens::written_over, crate::proofs::Tokens::kept_over))]
 pub fn append(room: &mut [u8], used: usize, bytes: &[u8]) -> usize
     requires { used ≤ length room.old }
     ensures value { result ≡ min (length room.old) (used + length bytes.now) }
     ensures room_after { take result room.new ≡ take (length room.old) (take used room.old ++ bytes.now) }
     ensures room_unchanged { drop result room.new ≡ drop result room.old }
 {
-    let count = smaller(room.len() - used, bytes.len());
-    let mut i = 0;
-    while i < count {
-        room[used + i] = bytes[i];
-        i += 1;
-    }
-    used + count
+    let count = bytes.len().min(room.len() - used);
+    let end = used + count;
+    room[used..end].copy_from_slice(&bytes[..count]);
+    end
 }
 
 // Puts text for which there is room.
@@ -126,29 +85,24 @@ pub fn put_named(out: &mut [u8], at: usize, name: &[u8], n: u64, end: &[u8]) -> 
     put(out, numbered, end)
 }
 
-// What was taken of a line: whether it ended, how many of its bytes are held, and where the next line begins.
+// What was taken of a line: how many of its bytes are held, and the input behind the newline that ended it, if one did.
 #[derive(Clone, Copy)]
-pub struct Taken {
-    pub ended: bool,
+pub struct Taken<'a> {
     pub held: usize,
-    pub from: usize,
+    pub rest: Option<&'a [u8]>,
 }
 
 // Holds the bytes up to the next newline behind those that are held, as far as the room goes: a line may come in several pieces of the input.
-pub fn take_line(input: &[u8], from: usize, line: &mut [u8], held: usize) -> Taken
-    requires from_in_bounds { from ≤ length input.now }
-    requires held_in_bounds { held ≤ length line.old }
-    ensures ended_value { result.ended ≡ ltb (from + length (up_to 10 (drop from input.now))) (length input.now) }
-    ensures from_value { result.from ≡ min (length input.now) (from + length (up_to 10 (drop from input.now)) + 1) }
+pub fn take_line<'a>(input: &'a [u8], line: &mut [u8], held: usize) -> Taken<'a>
+    requires { held ≤ length line.old }
+    ensures rest_value { MatchOption result.rest (length (up_to 10 input.now) ≡ length input.now) (λ rest. (length (up_to 10 input.now) < length input.now) × (rest.now ≡ drop (length (up_to 10 input.now) + 1) input.now)) }
     ensures held_after_in_bounds { result.held ≤ length line.old }
-    ensures line_after { take result.held line.new ≡ take (length line.old) (take held line.old ++ up_to 10 (drop from input.now)) }
+    ensures line_after { take result.held line.new ≡ take (length line.old) (take held line.old ++ up_to 10 input.now) }
     ensures line_unchanged { drop result.held line.new ≡ drop result.held line.old }
 {
-    let end = end_of(input, from, b'\n');
-    let held = append(line, held, &input[from..end]);
+    let (taken, rest) = next_token(input, b'\n');
     Taken {
-        ended: end < input.len(),
-        held,
-        from: smaller(input.len(), end + 1),
+        held: append(line, held, taken),
+        rest,
     }
 }

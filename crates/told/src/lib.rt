@@ -1,15 +1,22 @@
-// What the calls tell, as one struct of numbers: for the console, and for C, where an enum cannot pass.
+// What the calls tell, as one struct of numbers: for the console, and for C, where an enum cannot pass. Each answer is converted by `From`.
 #![tactic(auto)]
 
-ghost use Rattle.std.specs.Prelude.{◌≡◌, [], ◌∷◌};
-ghost use Rattle.paper.specs.Refusals.{answer, more, refusal, refused, admission, written, reading, measured_d0, measured_d1, opening, outcome};
-ghost use Rattle.told.specs.Telling.{tells};
+ghost use Rattle.std.specs.Prelude.{◌≡◌, take};
+ghost use Rattle.paper.specs.Refusals.{answer, more, refusal, reason, refused, admission, written, reading, measured_d0, measured_d1, opening, outcome};
+ghost use Rattle.told.specs.Telling.{told_by, tells};
 
-use paper::{
-    Admission, Count, MeasuredD0, MeasuredD1, Opening, Outcome, Reading, Refusal, Word, Written,
-};
+use paper::{Admission, MeasuredD0, MeasuredD1, Opening, Outcome, Reading, Refusal, Written};
 
-// The kind (0 an answer, 1 "more than the cap", 2 a refusal), a refusal's number, and the first `count` of a, b and c.
+// The kind of an answer.
+pub const ANSWER: u32 = 0;
+
+// The kind of "more than the cap".
+pub const MORE: u32 = 1;
+
+// The kind of a refusal.
+pub const REFUSAL: u32 = 2;
+
+// The kind, a refusal's number, and the first `count` of a, b and c.
 #[repr(C)]
 #[derive(Clone, Copy)]
 pub struct Numbers {
@@ -21,268 +28,164 @@ pub struct Numbers {
     pub c: u64,
 }
 
-// A refusal with which nothing is given.
-fn bare(number: u32) -> Numbers
-    ensures { tells result ≡ refusal number [] }
+// What is told, of any kind: the struct has room for three values.
+fn telling(kind: u32, number: u32, values: &[u64]) -> Numbers
+    ensures { tells result ≡ told_by kind number (take 3 values.now) }
 {
+    let count = values.len().min(3);
+    let mut room = [0; 3];
+    room[..count].copy_from_slice(&values[..count]);
+    let [a, b, c] = room;
     Numbers {
-        kind: 2,
+        kind,
         number,
-        count: 0,
-        a: 0,
-        b: 0,
-        c: 0,
+        count: count as u32,
+        a,
+        b,
+        c,
     }
 }
 
-// A refusal with its row or cell.
-fn giving_place(number: u32, place: u32) -> Numbers
-    ensures { tells result ≡ refusal number (place ∷ []) }
+// An answer's values, of which there are three at most.
+fn answering(values: &[u64]) -> Numbers
+    ensures { tells result ≡ answer (take 3 values.now) }
 {
-    Numbers {
-        kind: 2,
-        number,
-        count: 1,
-        a: place as u64,
-        b: 0,
-        c: 0,
-    }
+    telling(ANSWER, 0, values)
 }
 
-// A refusal with the number tried.
-fn giving_count(number: u32, tried: Count) -> Numbers
-    ensures { tells result ≡ refusal number (tried ∷ []) }
+// "More than the cap", and its values.
+fn more_than_cap(values: &[u64]) -> Numbers
+    ensures { tells result ≡ more (take 3 values.now) }
 {
-    Numbers {
-        kind: 2,
-        number,
-        count: 1,
-        a: tried as u64,
-        b: 0,
-        c: 0,
-    }
+    telling(MORE, 0, values)
 }
 
-// A refusal with a record's place in its list.
-fn giving_index(number: u32, place: usize) -> Numbers
-    ensures { tells result ≡ refusal number (place ∷ []) }
+// A refusal's number, and what is given with it.
+fn refusing(number: u32, given: &[u64]) -> Numbers
+    ensures { tells result ≡ refusal number (take 3 given.now) }
 {
-    Numbers {
-        kind: 2,
-        number,
-        count: 1,
-        a: place as u64,
-        b: 0,
-        c: 0,
-    }
-}
-
-// An answer without values.
-fn done() -> Numbers
-    ensures { tells result ≡ answer [] }
-{
-    Numbers {
-        kind: 0,
-        number: 0,
-        count: 0,
-        a: 0,
-        b: 0,
-        c: 0,
-    }
-}
-
-// A page's plate number.
-fn of_number(number: u32) -> Numbers
-    ensures { tells result ≡ answer (number ∷ []) }
-{
-    Numbers {
-        kind: 0,
-        number: 0,
-        count: 1,
-        a: number as u64,
-        b: 0,
-        c: 0,
-    }
-}
-
-// A word and its d.
-fn of_word(word: Word, d: Word) -> Numbers
-    ensures { tells result ≡ answer (word ∷ d ∷ []) }
-{
-    Numbers {
-        kind: 0,
-        number: 0,
-        count: 2,
-        a: word as u64,
-        b: d as u64,
-        c: 0,
-    }
-}
-
-// A message, what was put right, and the number tried.
-fn of_message(message: Word, z: Word, tried: Count) -> Numbers
-    ensures { tells result ≡ answer (message ∷ z ∷ tried ∷ []) }
-{
-    Numbers {
-        kind: 0,
-        number: 0,
-        count: 3,
-        a: message as u64,
-        b: z as u64,
-        c: tried as u64,
-    }
-}
-
-// A distance and the number tried.
-fn of_distance(d: u32, tried: Count) -> Numbers
-    ensures { tells result ≡ answer (d ∷ tried ∷ []) }
-{
-    Numbers {
-        kind: 0,
-        number: 0,
-        count: 2,
-        a: d as u64,
-        b: tried as u64,
-        c: 0,
-    }
-}
-
-// The same, with the radius to print.
-fn of_plate(d: u32, tried: Count, radius: u32) -> Numbers
-    ensures { tells result ≡ answer (d ∷ tried ∷ radius ∷ []) }
-{
-    Numbers {
-        kind: 0,
-        number: 0,
-        count: 3,
-        a: d as u64,
-        b: tried as u64,
-        c: radius as u64,
-    }
-}
-
-// "More than the cap", with the number tried.
-fn more_tried(tried: Count) -> Numbers
-    ensures { tells result ≡ more (tried ∷ []) }
-{
-    Numbers {
-        kind: 1,
-        number: 0,
-        count: 1,
-        a: tried as u64,
-        b: 0,
-        c: 0,
-    }
-}
-
-// The same, with the radius to print.
-fn more_plate(tried: Count, radius: u32) -> Numbers
-    ensures { tells result ≡ more (tried ∷ radius ∷ []) }
-{
-    Numbers {
-        kind: 1,
-        number: 0,
-        count: 2,
-        a: tried as u64,
-        b: radius as u64,
-        c: 0,
-    }
+    telling(REFUSAL, number, given)
 }
 
 // What a refusal tells: its number, and its place if it has one.
-pub fn of_refusal(why: Refusal) -> Numbers
-    ensures { tells result ≡ refused why }
-{
-    match why {
-        Refusal::Shape => bare(1),
-        Refusal::Stray { row } => giving_place(2, row),
-        Refusal::OffCode { row } => giving_place(3, row),
-        Refusal::OffMessage { row } => giving_place(4, row),
-        Refusal::DependentG0 { row } => giving_place(5, row),
-        Refusal::DependentH { row } => giving_place(6, row),
-        Refusal::Message => bare(7),
-        Refusal::Stuck { cell } => giving_place(8, cell),
-        Refusal::NoWord => bare(9),
-        Refusal::ReadWord { cell } => giving_place(10, cell),
-        Refusal::Limit => bare(11),
-        Refusal::NoCodeword { tried } => giving_count(12, tried),
-        Refusal::Crowded => bare(13),
-        Refusal::NoSlot => bare(14),
-        Refusal::Record { place } => giving_index(15, place),
-        Refusal::Plate => bare(16),
-        Refusal::OtherShape => bare(24),
-        Refusal::Lengths => bare(25),
+impl From<Refusal> for Numbers {
+    ghost from_gives = { λ why t. tells t ≡ refused why };
+
+    fn from(why: Refusal) -> Numbers {
+        match why {
+            Refusal::Shape => refusing(1, &[]),
+            Refusal::Stray { row } => refusing(2, &[row as u64]),
+            Refusal::OffCode { row } => refusing(3, &[row as u64]),
+            Refusal::OffMessage { row } => refusing(4, &[row as u64]),
+            Refusal::DependentG0 { row } => refusing(5, &[row as u64]),
+            Refusal::DependentH { row } => refusing(6, &[row as u64]),
+            Refusal::Message => refusing(7, &[]),
+            Refusal::Stuck { cell } => refusing(8, &[cell as u64]),
+            Refusal::NoWord => refusing(9, &[]),
+            Refusal::ReadWord { cell } => refusing(10, &[cell as u64]),
+            Refusal::Limit => refusing(11, &[]),
+            Refusal::NoCodeword { tried } => refusing(12, &[tried]),
+            Refusal::Crowded => refusing(13, &[]),
+            Refusal::NoSlot => refusing(14, &[]),
+            Refusal::Record { place } => refusing(15, &[place as u64]),
+            Refusal::Plate => refusing(16, &[]),
+            Refusal::OtherShape => refusing(24, &[]),
+            Refusal::Lengths => refusing(25, &[]),
+        }
     }
+}
+
+// A refusal's number alone.
+pub fn number_of(why: Refusal) -> u32
+    ensures { result ≡ (reason why).number }
+{
+    Numbers::from(why).number
 }
 
 // What an admission tells.
-pub fn of_admission(answer: Admission) -> Numbers
-    ensures { tells result ≡ admission answer }
-{
-    match answer {
-        Admission::Admitted => done(),
-        Admission::Refused(why) => of_refusal(why),
+impl From<Admission> for Numbers {
+    ghost from_gives = { λ a t. tells t ≡ admission a };
+
+    fn from(answer: Admission) -> Numbers {
+        match answer {
+            Admission::Admitted => answering(&[]),
+            Admission::Refused(why) => why.into(),
+        }
     }
 }
 
-// What a write tells.
-pub fn of_written(answer: Written) -> Numbers
-    ensures { tells result ≡ written answer }
-{
-    match answer {
-        Written::Word { word, d } => of_word(word, d),
-        Written::Refused(why) => of_refusal(why),
+// What a write tells: a word and its d.
+impl From<Written> for Numbers {
+    ghost from_gives = { λ a t. tells t ≡ written a };
+
+    fn from(answer: Written) -> Numbers {
+        match answer {
+            Written::Word { word, d } => answering(&[word, d]),
+            Written::Refused(why) => why.into(),
+        }
     }
 }
 
-// What a read tells.
-pub fn of_reading(answer: Reading) -> Numbers
-    ensures { tells result ≡ reading answer }
-{
-    match answer {
-        Reading::Message { message, z, tried } => of_message(message, z, tried),
-        Reading::Refused(why) => of_refusal(why),
+// What a read tells: a message, what was put right, and the number tried.
+impl From<Reading> for Numbers {
+    ghost from_gives = { λ a t. tells t ≡ reading a };
+
+    fn from(answer: Reading) -> Numbers {
+        match answer {
+            Reading::Message { message, z, tried } => answering(&[message, z, tried]),
+            Reading::Refused(why) => why.into(),
+        }
     }
 }
 
-// What a measurement of d0 tells.
-pub fn of_d0(answer: MeasuredD0) -> Numbers
-    ensures { tells result ≡ measured_d0 answer }
-{
-    match answer {
-        MeasuredD0::Distance { d, tried } => of_distance(d, tried),
-        MeasuredD0::More { tried } => more_tried(tried),
-        MeasuredD0::Refused(why) => of_refusal(why),
+// What a measurement of d0 tells: a distance, or "more than the cap", and the number tried.
+impl From<MeasuredD0> for Numbers {
+    ghost from_gives = { λ a t. tells t ≡ measured_d0 a };
+
+    fn from(answer: MeasuredD0) -> Numbers {
+        match answer {
+            MeasuredD0::Distance { d, tried } => answering(&[d as u64, tried]),
+            MeasuredD0::More { tried } => more_than_cap(&[tried]),
+            MeasuredD0::Refused(why) => why.into(),
+        }
     }
 }
 
-// What a measurement of d1 tells.
-pub fn of_d1(answer: MeasuredD1) -> Numbers
-    ensures { tells result ≡ measured_d1 answer }
-{
-    match answer {
-        MeasuredD1::Distance { d, tried, radius } => of_plate(d, tried, radius),
-        MeasuredD1::More { tried, radius } => more_plate(tried, radius),
-        MeasuredD1::Refused(why) => of_refusal(why),
+// What a measurement of d1 tells: the same, with the radius to print.
+impl From<MeasuredD1> for Numbers {
+    ghost from_gives = { λ a t. tells t ≡ measured_d1 a };
+
+    fn from(answer: MeasuredD1) -> Numbers {
+        match answer {
+            MeasuredD1::Distance { d, tried, radius } => {
+                answering(&[d as u64, tried, radius as u64])
+            }
+            MeasuredD1::More { tried, radius } => more_than_cap(&[tried, radius as u64]),
+            MeasuredD1::Refused(why) => why.into(),
+        }
     }
 }
 
-// What opening a page tells.
-pub fn of_opening(answer: Opening) -> Numbers
-    ensures { tells result ≡ opening answer }
-{
-    match answer {
-        Opening::Number { number } => of_number(number),
-        Opening::Refused(why) => of_refusal(why),
+// What opening a page tells: its plate number.
+impl From<Opening> for Numbers {
+    ghost from_gives = { λ a t. tells t ≡ opening a };
+
+    fn from(answer: Opening) -> Numbers {
+        match answer {
+            Opening::Number { number } => answering(&[number as u64]),
+            Opening::Refused(why) => why.into(),
+        }
     }
 }
 
 // What a call tells whose answer stands in lent rooms.
-pub fn of_outcome(answer: Outcome) -> Numbers
-    ensures { tells result ≡ outcome answer }
-{
-    match answer {
-        Outcome::Done => done(),
-        Outcome::Refused(why) => of_refusal(why),
+impl From<Outcome> for Numbers {
+    ghost from_gives = { λ a t. tells t ≡ outcome a };
+
+    fn from(answer: Outcome) -> Numbers {
+        match answer {
+            Outcome::Done => answering(&[]),
+            Outcome::Refused(why) => why.into(),
+        }
     }
 }

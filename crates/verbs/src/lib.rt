@@ -21,8 +21,9 @@ use answers::say;
 use lines::{Line, parse};
 use pageverbs::{pread, pwrite};
 use paper::Word;
+use rooms::sheet_of;
 use tableverbs::{tosheet, totables};
-use told::{Numbers, of_admission, of_d0, of_d1, of_opening, of_reading, of_written};
+use told::Numbers;
 use wholeverbs::wpage;
 
 // `admit SHEET`.
@@ -30,8 +31,7 @@ fn admit(ns: &[Word]) -> Numbers
     requires { Stands (bytes "nnnL") 0 ns.now }
     ensures { tells result ≡ admits (sheet_in ns.now) }
 {
-    let at = 4 + ns[3] as usize;
-    of_admission(store::admit(ns[0] as u32, ns[1] as u32, ns[2] as u32, &ns[4..at]))
+    Numbers::from(store::admit(&sheet_of(ns)))
 }
 
 // `write SHEET message stuck levels`.
@@ -40,15 +40,7 @@ fn write(ns: &[Word]) -> Numbers
     ensures { tells result ≡ writes (sheet_in ns.now) (arg ns.now 0) (arg ns.now 1) (arg ns.now 2) }
 {
     let at = 4 + ns[3] as usize;
-    of_written(store::write(
-        ns[0] as u32,
-        ns[1] as u32,
-        ns[2] as u32,
-        &ns[4..at],
-        ns[at],
-        ns[at + 1],
-        ns[at + 2],
-    ))
+    Numbers::from(store::write(&sheet_of(ns), ns[at], ns[at + 1], ns[at + 2]))
 }
 
 // `read SHEET y radius`.
@@ -57,14 +49,7 @@ fn read(ns: &[Word]) -> Numbers
     ensures { tells result ≡ reads (sheet_in ns.now) (arg ns.now 0) (arg ns.now 1) }
 {
     let at = 4 + ns[3] as usize;
-    of_reading(store::read(
-        ns[0] as u32,
-        ns[1] as u32,
-        ns[2] as u32,
-        &ns[4..at],
-        ns[at],
-        ns[at + 1] as u32,
-    ))
+    Numbers::from(store::read(&sheet_of(ns), ns[at], ns[at + 1] as u32))
 }
 
 // `d0 SHEET cap`.
@@ -73,13 +58,7 @@ fn d0(ns: &[Word]) -> Numbers
     ensures { tells result ≡ measures_d0 (sheet_in ns.now) (arg ns.now 0) }
 {
     let at = 4 + ns[3] as usize;
-    of_d0(store::measure_d0(
-        ns[0] as u32,
-        ns[1] as u32,
-        ns[2] as u32,
-        &ns[4..at],
-        ns[at] as u32,
-    ))
+    Numbers::from(store::measure_d0(&sheet_of(ns), ns[at] as u32))
 }
 
 // `d1 SHEET cap`.
@@ -88,13 +67,7 @@ fn d1(ns: &[Word]) -> Numbers
     ensures { tells result ≡ measures_d1 (sheet_in ns.now) (arg ns.now 0) }
 {
     let at = 4 + ns[3] as usize;
-    of_d1(store::measure_d1(
-        ns[0] as u32,
-        ns[1] as u32,
-        ns[2] as u32,
-        &ns[4..at],
-        ns[at] as u32,
-    ))
+    Numbers::from(store::measure_d1(&sheet_of(ns), ns[at] as u32))
 }
 
 // `open SHEET`.
@@ -102,8 +75,7 @@ fn open_page(ns: &[Word]) -> Numbers
     requires { Stands (bytes "nnnL") 0 ns.now }
     ensures { tells result ≡ opens (sheet_in ns.now) }
 {
-    let at = 4 + ns[3] as usize;
-    of_opening(opening::open_page(ns[0] as u32, ns[1] as u32, ns[2] as u32, &ns[4..at]))
+    Numbers::from(opening::open_page(&sheet_of(ns)))
 }
 
 // Puts the text of the answer to a verb's call.

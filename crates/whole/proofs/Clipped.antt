@@ -1,5 +1,5 @@
 -- Slots or records of which there are too many stop the whole-page write, and nothing is changed: it tells and leaves the same of a list that is clipped at one more than there may be.
--- For `page_write_all`, which holds no more records, and for the console, whose room for a page has no more slots. Assumes nothing.
+-- For the console, whose rooms for a page and its records have no more, and for whoever holds the first of a list's records. Assumes nothing.
 use mathlib.Core.Path.{◌≡◌, sym, ap, ◌∙◌}
 use mathlib.Core.Bool.{Bool, false, ◌&&◌, and-false}
 use mathlib.Core.List.{List, []}

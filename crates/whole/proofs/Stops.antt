@@ -8,7 +8,6 @@ use native.Mathlib.Omega.{arith}
 use Rattle.paper.specs.Page.{paged}
 use Rattle.paper.specs.Refusals.{Told, answer, refusal, unless}
 use Rattle.paper.specs.Sheet.{Sheet}
-use Rattle.paper.specs.declared.Admission.TheVariants as Admission
 use Rattle.rules.proofs.Stages.{Stage, passes, refuses}
 use Rattle.sheet.specs.Sound.{Sound}
 use Rattle.opening.proofs.Crowded.{crowded-alike}
@@ -36,7 +35,7 @@ module _ (s : Sheet) (number : ℕ) where
     where
       go : Stage (paged s number few) → Unstopped s number few each
       go (passes p) = record {
-        sound = page-sound s number few Admission.Admitted (sym (p (answer []))) refl;
+        sound = page-sound s number few (p (answer []));
         passed = p;
         is-few = few-passed few p;
         is-each = each-passed each (sym (e ∙ p (unless each 25 (answer []))));

@@ -10,6 +10,7 @@ use Rattle.paper.specs.WholePage.{note}
 use Rattle.paper.specs.Refusals.{Told}
 use Rattle.paper.specs.Sheet.{Sheet}
 use Rattle.paper.specs.declared.StuckCell.{StuckCell}
+use Rattle.std.proofs.Common.{Result, Ok}
 use Rattle.records.specs.Gather.{gather_of, nothing}
 use Rattle.records.specs.declared.Gathered.{Gathered}
 use Rattle.held.specs.Runs.{run}
@@ -29,10 +30,10 @@ module _ (told : ℕ → Told) (start : List ℕ) where
 
 -- ---- a run, of whose slots `gathered` has what their records gather to
 
-module _ (s : Sheet) (gathered : List Gathered) (messages : List ℕ) (base : ℕ) where
+module _ (s : Sheet) (gathered : List (Result Gathered ℕ)) (messages : List ℕ) (base : ℕ) where
   -- what the write of slot i tells
   abbrev pub run_told : ℕ → Told
-  run_told i = puts_admitted s (get_or gathered (i - base) nothing) (get_or messages i 0)
+  run_told i = puts_admitted s (get_or gathered (i - base) (Ok nothing)) (get_or messages i 0)
 
   -- what the run's writes tell is `told`
   abbrev pub Tells : (ℕ → Told) → Type 0
@@ -51,8 +52,8 @@ module _ (s : Sheet) (gathered : List Gathered) (messages : List ℕ) (base : �
       ap₂ (λ (t : Told) (p : List ℕ). set p i (note t)) (tells i b l) (goes told tells start e) ∙ sym (notes-next told start i)
 
 -- what was gathered for a run is what each of its slots gathers to
-pub run-tells : (s : Sheet) (gathered : List Gathered) (records : List StuckCell) (messages : List ℕ) (base : ℕ)
-    → ((j : ℕ) → j < run → get_or gathered j nothing ≡ gather_of (base + j) s.n records) → Tells s gathered messages base (slot_told s records messages)
+pub run-tells : (s : Sheet) (gathered : List (Result Gathered ℕ)) (records : List StuckCell) (messages : List ℕ) (base : ℕ)
+    → ((j : ℕ) → j < run → get_or gathered j (Ok nothing) ≡ gather_of (base + j) s.n records) → Tells s gathered messages base (slot_told s records messages)
 run-tells s gathered records messages base so i b l =
-    ap (λ (g : Gathered). puts_admitted s g (get_or messages i 0))
+    ap (λ (g : Result Gathered ℕ). puts_admitted s g (get_or messages i 0))
     (so (i - base) (omega arith) ∙ ap (λ (m : ℕ). gather_of m s.n records) (let e : base + (i - base) ≡ i = omega arith in e))

@@ -8,18 +8,18 @@ use lib.ListN.{length, take, length-take}
 use lib.Seq.{take_all}
 use Rattle.paper.specs.Page.{most_slots}
 use Rattle.paper.specs.WholePage.{whole_writes, whole_page, whole_notes}
-use Rattle.paper.specs.Sheet.{Sheet, sheet}
+use Rattle.paper.specs.Sheet.{Sheet}
 use Rattle.paper.specs.declared.StuckCell.{StuckCell}
 use Rattle.opening.proofs.Crowded.{clipped}
 use Rattle.whole.proofs.Clipped.{slots-told, records-told, records-page, records-notes, crowded-notes}
-use Rattle.lines.specs.Arguments.{at, part, sheet_in, behind, arg}
+use Rattle.lines.specs.Arguments.{at, sheet_in, arg}
 use Rattle.rooms.specs.Lent.{room_slots, room_records, page_end, page_in, records_from, records_in}
 use Rattle.rooms.proofs.Lists.{records-clipped}
 use Rattle.wholeverbs.specs.Wholes.{messages_in, notes_in, whole_written, page_left, notes_left}
 
--- what is lent of a line: its rows, the first of its slots and records, its messages, and the room for notes
-pub record Lends (ns rows page : List ℕ) (records : List StuckCell) (messages notes : List ℕ) : Type 0 where
-  pub rows_are : rows ≡ part 4 (behind ns) ns
+-- what is lent of a line: its sheet, the first of its slots and records, its messages, and the room for notes
+pub record Lends (s : Sheet) (ns page : List ℕ) (records : List StuckCell) (messages notes : List ℕ) : Type 0 where
+  pub sheet_is : s ≡ sheet_in ns
   pub page_is : page ≡ take room_slots (page_in ns)
   pub records_are : records ≡ take room_records (records_in ns)
   pub messages_are : messages ≡ messages_in ns
@@ -30,15 +30,12 @@ pub first-records : (ns : List ℕ) (records : List StuckCell) (held : ℕ) → 
     → records ≡ records_from held (page_end ns + 1) ns → records ≡ take room_records (records_in ns)
 first-records ns records held e r = r ∙ records-clipped held (at ns (page_end ns)) room_records (page_end ns + 1) ns e
 
-module _ {ns rows page : List ℕ} {records : List StuckCell} {messages notes : List ℕ} (lent : Lends ns rows page records messages notes) where
-  abbrev s : Sheet
-  s = sheet (at ns 0) (at ns 1) (at ns 2) rows
-
+module _ {s : Sheet} {ns page : List ℕ} {records : List StuckCell} {messages notes : List ℕ} (lent : Lends s ns page records messages notes) where
   -- what is said of it is said of the line
   of-line : {A : Type 0} (f : Sheet → List ℕ → List StuckCell → List ℕ → List ℕ → A)
       → f s page records messages notes ≡ f (sheet_in ns) (take room_slots (page_in ns)) (take room_records (records_in ns)) (messages_in ns) (notes_in ns)
   of-line f =
-      ap₂ (λ (x y : List ℕ). f (sheet (at ns 0) (at ns 1) (at ns 2) x) y records messages notes) lent.rows_are lent.page_is
+      ap₂ (λ (x : Sheet) (y : List ℕ). f x y records messages notes) lent.sheet_is lent.page_is
       ∙ ap₂ (λ (x : List StuckCell) (y : List ℕ). f (sheet_in ns) (take room_slots (page_in ns)) x y notes) lent.records_are lent.messages_are
       ∙ ap (f (sheet_in ns) (take room_slots (page_in ns)) (take room_records (records_in ns)) (messages_in ns)) lent.notes_are
 

@@ -13,10 +13,9 @@ ghost use Rattle.wholeverbs.specs.Wholes.{notes_in, whole_written, page_left, no
 use answers::{say, say_list};
 use held::ROOM_RECORDS;
 use paper::{MOST_SLOTS, Word};
-use rooms::{ROOM_SLOTS, copy_page, copy_records, list_at, room_at, room_of};
-use text::smaller;
-use told::{Numbers, of_outcome};
-use whole::write_held;
+use rooms::{ROOM_SLOTS, copy_page, copy_records, list_at, room_at, room_of, sheet_of};
+use told::Numbers;
+use whole::page_write_all;
 
 // Writes the lent copy of the line's page, and the notes. Of a page or of records that are too many, one more than there may be are enough to tell it.
 fn write_whole(ns: &[Word], page: &mut [Word], notes: &mut [Word]) -> Numbers
@@ -31,17 +30,13 @@ fn write_whole(ns: &[Word], page: &mut [Word], notes: &mut [Word]) -> Numbers
     let end = rows + 1 + 1 + ns[rows + 1] as usize;
     let count = ns[end] as usize;
     let last = end + 1 + 3 * count;
-    let held = smaller(count, ROOM_RECORDS);
+    let held = count.min(ROOM_RECORDS);
     let records = copy_records(ns, end + 1, held);
-    of_outcome(write_held(
-        ns[0] as u32,
-        ns[1] as u32,
-        ns[2] as u32,
-        list_at(ns, 3),
+    Numbers::from(page_write_all(
+        &sheet_of(ns),
         ns[rows] as u32,
         page,
-        records,
-        held,
+        &records[..held],
         list_at(ns, last),
         notes,
     ))
@@ -89,7 +84,7 @@ pub fn wpage(ns: &[Word], out: &mut [u8]) -> usize
     let last = end + 1 + 3 * ns[end] as usize;
     let asked = room_at(ns, last + 1 + ns[last] as usize);
     let size = asked.size;
-    let held = smaller(slots, ROOM_SLOTS);
+    let held = slots.min(ROOM_SLOTS);
     let mut page = copy_page(ns, at + 1, held);
     let mut notes = room_of(asked.fill);
     write_in(ns, &mut page[..held], &mut notes[..size], out)

@@ -2,7 +2,7 @@
 // the lowest cell, and the cells at n or above.
 #![tactic(auto)]
 
-ghost use Rattle.std.specs.Prelude.{◌≡◌, ◌%◌, ◌^◌, ◌≤◌, ◌<◌, min, eqb, ltb, length};
+ghost use Rattle.std.specs.Prelude.{◌≡◌, ◌%◌, ◌^◌, ◌≤◌, ◌<◌, eqb, ltb, length};
 ghost use Rattle.paper.specs.First.{first};
 ghost use Rattle.paper.specs.Words.{width, cell, weight, product, products, sum, ◌⊕◌};
 ghost use Rattle.words.specs.Places.{as_first};
@@ -11,13 +11,6 @@ use paper::{WIDTH, Word};
 
 // The word that is 1 at every cell.
 pub const ALL_CELLS: Word = u64::MAX;
-
-// The first row or cell with a property, or that there is none.
-#[derive(Clone, Copy)]
-pub enum Place {
-    At(u32),
-    Nowhere,
-}
 
 // "The product of two words is the parity of the cells that are 1 in both": the parity of a count of ones, which the compiler
 // takes by one fold and the processor's own parity flag.
@@ -40,48 +33,33 @@ pub fn products_of(rows: &[Word], x: Word) -> Word
     ensures { result ≡ products rows.now x }
 {
     let mut word: Word = 0;
-    let mut i = rows.len();
-    while 0 < i {
-        i -= 1;
-        word = product_of(rows[i], x) + 2 * word;
+    for row in rows.iter().rev() {
+        word = product_of(*row, x) + 2 * word;
     }
     word
 }
 
-// How many of so many rows the bits of a word can pick: as many as it has cells.
-fn pickable(count: usize) -> usize
-    ensures { result ≡ min count width }
-{
-    if count < WIDTH as usize {
-        count
-    } else {
-        WIDTH as usize
-    }
-}
-
-// The sum of the rows that d picks, bit j for row j. A row is multiplied by its bit, and each bit is taken from d itself: so no branch hangs on the bits of a message, which would be guessed
-// wrong every other time, and the compiler takes several rows at once.
+// The sum of the rows that d picks, bit j for row j: of no more rows than a word has cells. A row is multiplied by its bit, and each bit is taken from d itself: so no branch hangs on the bits
+// of a message, which would be guessed wrong every other time, and the compiler takes several rows at once.
 pub fn sum_of(rows: &[Word], d: Word) -> Word
     ensures { result ≡ sum rows.now d }
 {
-    let count = pickable(rows.len());
+    let count = rows.len().min(WIDTH as usize);
     let mut word: Word = 0;
-    let mut i = 0;
-    while i < count {
-        word = word ^ ((d >> (i as u32)) % 2 * rows[i]);
-        i += 1;
+    for (i, row) in rows[..count].iter().enumerate() {
+        word ^= (d >> (i as u32)) % 2 * row;
     }
     word
 }
 
 // The lowest cell of a word that is 1, or that all are 0.
-pub fn lowest_of(x: Word) -> Place
+pub fn lowest_of(x: Word) -> Option<u32>
     ensures { as_first result ≡ first width (λ i. eqb (cell x i) 1) }
 {
     if x == 0 {
-        Place::Nowhere
+        None
     } else {
-        Place::At(u64::trailing_zeros(x))
+        Some(u64::trailing_zeros(x))
     }
 }
 

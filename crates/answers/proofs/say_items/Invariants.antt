@@ -2,15 +2,15 @@
 -- It is one loop for every list of an answer.
 use mathlib.Core.Path.{◌≡◌}
 use mathlib.Core.List.{◌++◌}
-use Prim.Native.Nat.{◌+◌, ◌-◌, ◌*◌, ◌≤◌}
+use Prim.Native.Nat.{◌+◌, ◌*◌, ◌≤◌}
 use lib.ListN.{length, take, drop}
 use Rattle.answers.specs.Answers.{spaced}
 use Rattle.answers.proofs.say_items.Given as goal
 
-abbrev pub invariant-loop-i : goal.invariant-loop-i
-invariant-loop-i l =
-    (l.i ≤ length l.xs) × (length l.out ≡ length l.initial.out) × (l.to ≤ l.at + 21 * l.i)
-    × (take l.at l.initial.out ++ spaced l.xs ≡ take l.to l.out ++ spaced (drop l.i l.xs)) × (drop l.to l.out ≡ drop l.to l.initial.out)
-
-abbrev pub decreases-loop-i : goal.decreases-loop-i
-decreases-loop-i l = length l.xs - l.i
+abbrev pub invariant-loop-x : goal.invariant-loop-x
+invariant-loop-x l = record {
+  wide : length l.out ≡ length l.initial.out;
+  few : l.to ≤ l.at + 21 * l.x-index;
+  whole : take l.at l.initial.out ++ spaced l.xs ≡ take l.to l.out ++ spaced (drop l.x-index l.xs);
+  kept : drop l.to l.out ≡ drop l.to l.initial.out;
+}

@@ -1,8 +1,7 @@
--- `raised` meets its contract: a word that is not 0 is raised by less than the width, and nothing is lost.
-use native.Mathlib.Omega.{arith}
+-- `raised` meets its contract: only a word that is 0 is raised by the width or more, and nothing is lost.
 use Rattle.paper.specs.Words.{width}
-use Rattle.blocks.proofs.Blocks.{raised_by}
+use Rattle.blocks.proofs.Blocks.{shifted_up}
 use Rattle.blocks.proofs.raised.Goals as goal
 
-pub overflow_shl-result : goal.overflow_shl-result
-overflow_shl-result c = raised_by c.args.x c.args.by width (omega arith) c.requires
+pub returns : goal.returns
+returns c = shifted_up c.args.x c.args.by width c.unwrap_or.result c.checked_shl.result c.requires c.checked_shl.ensures c.unwrap_or.ensures

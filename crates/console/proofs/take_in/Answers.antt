@@ -3,8 +3,14 @@ use Rattle.std.proofs.Common.{arith}
 use Rattle.talk.proofs.Pieces.{answered-more}
 use Rattle.console.proofs.take_in.Goals as goal
 
-pub loop-from-preserved : goal.loop-from-preserved
-loop-from-preserved g c =
-    let s = c.take_step-s.ensures in
-    let i = c.loop-from.invariant in
-    (omega (arith, s.in_bounds), omega (arith, s.in_bounds), omega arith, omega arith, omega arith, answered-more i.5 s.stepped)
+pub loop-rest-preserved : goal.loop-rest-preserved
+loop-rest-preserved g c =
+    let s = c.take_step-step.ensures in
+    let i = c.loop-rest.invariant in
+    record {
+      inside = omega (arith, s.in_bounds, i.lines);
+      lines = omega (arith, i.lines);
+      numbers = omega (arith, i.numbers);
+      texts = omega (arith, i.texts);
+      answered = answered-more i.answered s.stepped;
+    }

@@ -1,10 +1,7 @@
 -- `first_zero` meets its contract: none of the words before place j is 0.
-use mathlib.Core.Path.{◌≡◌}
-use Prim.Native.Nat.{◌≤◌}
-use lib.Dec.{eqb}
-use lib.ListN.{get_or}
+use Rattle.std.proofs.Common.{◌≡◌, eqb, get_or}
 use Rattle.paper.specs.First.{first, nowhere}
 use Rattle.elimination.proofs.first_zero.Given as goal
 
 abbrev pub invariant-loop-j : goal.invariant-loop-j
-invariant-loop-j l = (l.j ≤ l.count) × (first l.j (λ i. eqb (get_or l.words i 0) 0) ≡ nowhere)
+invariant-loop-j l = first l.j (λ i. eqb (get_or l.kept i (record { rest = 0; choice = 0 })).rest 0) ≡ nowhere

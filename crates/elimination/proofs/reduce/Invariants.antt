@@ -1,7 +1,7 @@
--- `reduce` meets its contract: `rest` and `choice` are what is left of x and its choice after the first i kept words.
-use Prim.Native.Nat.{◌≤◌}
-use Rattle.elimination.specs.Kept.{Reduces}
+-- `reduce` meets its contract: `rest` and `choice` are what the kept rows so far leave of x, and its choice.
+use Rattle.std.proofs.Common.{◌≡◌, take}
+use Rattle.elimination.specs.Kept.{reduced}
 use Rattle.elimination.proofs.reduce.Given as goal
 
-abbrev pub invariant-loop-i : goal.invariant-loop-i
-invariant-loop-i l = (l.i ≤ l.count) × Reduces l.words l.choices l.i l.x l.rest l.choice
+abbrev pub invariant-loop-row : goal.invariant-loop-row
+invariant-loop-row l = record { rest = l.rest; choice = l.choice } ≡ reduced (take l.row-index l.kept) l.x

@@ -1,19 +1,23 @@
 -- `solve` meets its contract: nothing is left of the target exactly if some choice makes it, and its choice is then the first.
-use mathlib.Core.Path.{sym, ap, ◌∙◌}
+use Rattle.std.proofs.Common.{List, ap, sym, ◌∙◌, bit_and}
 use Rattle.paper.specs.First.{at}
+use Rattle.elimination.specs.declared.Reduced.{Reduced}
+use Rattle.elimination.specs.Kept.{reduced, masked}
 use Rattle.elimination.proofs.Masked.{first-masked}
 use Rattle.elimination.proofs.Solutions.{first-choice, no-choice}
 use Rattle.elimination.proofs.solve.Goals as goal
 
 pub returns-then-r-eq0 : goal.returns-then-r-eq0
 returns-then-r-eq0 c =
-    let k = c.keep_rows-kept in
-    let r = c.reduce-r.ensures in
-    ap at r.picked
-    ∙ sym (first-masked _ _ _ _ ∙ first-choice _ _ _ _ k.ensures.kept _ (sym r.left ∙ c.if-r-eq0.true))
+    let a = c.args in
+    let x = bit_and a.target a.mask in
+    let e = c.reduce-r.ensures ∙ ap (λ (ks : List Reduced). reduced ks x) c.keep_rows-kept.ensures in
+    ap (λ (r : Reduced). at r.choice) e
+    ∙ sym (first-masked a.mask a.rows.now x ∙ first-choice (masked a.mask a.rows.now) x (ap (λ (r : Reduced). r.rest) (sym e) ∙ c.if-r-eq0.true))
 
-pub returns : goal.returns
-returns c =
-    let k = c.keep_rows-kept in
-    let r = c.reduce-r.ensures in
-    sym (first-masked _ _ _ _ ∙ no-choice _ _ _ _ k.ensures.kept _ (λ e. c.if-r-eq0.false (r.left ∙ e)))
+pub returns-else-r-eq0 : goal.returns-else-r-eq0
+returns-else-r-eq0 c =
+    let a = c.args in
+    let x = bit_and a.target a.mask in
+    let e = c.reduce-r.ensures ∙ ap (λ (ks : List Reduced). reduced ks x) c.keep_rows-kept.ensures in
+    sym (first-masked a.mask a.rows.now x ∙ no-choice (masked a.mask a.rows.now) x (λ z. c.if-r-eq0.false (ap (λ (r : Reduced). r.rest) e ∙ z)))

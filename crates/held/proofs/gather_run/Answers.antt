@@ -1,44 +1,40 @@
 -- `gather_run` meets its contract: what is gathered of each slot of the run is what the records that were passed gather to.
-use mathlib.Core.Path.{refl, ◌∙◌}
-use Prim.Native.Nat.{◌+◌, ◌≤◌, ◌<◌}
-use borrow.Author.Rules.{rules}
+use mathlib.Core.Path.{refl, sym, ◌∙◌}
+use Prim.Native.Nat.{◌+◌, ◌<◌}
 use native.Mathlib.Omega.{arith}
-use lib.ListN.{length, get_or, get_or-replicate, length-set}
+use lib.ListN.{length, get_or-replicate, length-set}
+use Rattle.std.proofs.Common.{Ok}
 use Rattle.records.specs.Gather.{nothing}
 use Rattle.records.proofs.Gathers.{gathers-none, gathers-few}
 use Rattle.held.specs.Runs.{run}
-use Rattle.held.proofs.Passes.{none-gathers, one-gathers}
+use Rattle.held.proofs.Passes.{none-gathers, put-gathers, broken-gathers}
 use Rattle.held.proofs.gather_run.Goals as goal
-use Rattle.held.proofs.gather_run.Goals.{then-at-lt-RUN, else-at-lt-RUN}
+use Rattle.held.proofs.gather_run.Goals.{in-Some+in-Ok, in-Some+in_default-all, in_default}
 
-pub loop-i-init : goal.loop-i-init
-loop-i-init c = (omega arith, refl, λ j l. get_or-replicate run j nothing nothing l ∙ gathers-none _ _)
+pub loop-r-init : goal.loop-r-init
+loop-r-init c = (refl, λ j l. get_or-replicate run j (Ok nothing) (Ok nothing) l ∙ gathers-none _ _)
 
 pub step-requires : goal.step-requires
 step-requires c =
-    let l = c.loop-i in
+    let l = c.loop-r in
     let a = c.args in
-    let few : (get_or l.all c.place_in_run-at.result nothing).place ≤ l.i =
-    rw (l.invariant.2 c.place_in_run-at.result (search rules)) (gathers-few (a.base + c.place_in_run-at.result) a.n a.held l.i) in
-    omega (arith, few)
+    omega (arith, gathers-few (a.base + c.in-Some.at) a.n a.records.now l.r-index (sym (l.invariant.1 c.in-Some.at c.in-Some.ensures.0) ∙ c.in-Ok.is))
 
-pub loop-i-preserved : goal.loop-i-preserved
-loop-i-preserved c =
-    let l = c.loop-i in
+pub loop-r-preserved : goal.loop-r-preserved
+loop-r-preserved c =
+    let l = c.loop-r in
     let a = c.args in
-    let h : l.i < length a.held = search rules in (
-      omega arith,
-      elim c.if-at-lt-RUN.branch [
-        | then-at-lt-RUN w ↦ rw w.all-is (length-set l.all c.place_in_run-at.result w.step.result ∙ l.invariant.1)
-        | else-at-lt-RUN w ↦ rw w.all-is l.invariant.1
-      ],
-      elim c.if-at-lt-RUN.branch [
-        | then-at-lt-RUN w ↦
-            rw w.all-is
-            (one-gathers a.base a.n a.held l.all l.i h l.invariant.2 c.place_in_run-at.result w.step.result w.if-at-lt-RUN.true
-            (omega (arith, w.if-at-lt-RUN.true, l.invariant.1)) (c.place_in_run-at.ensures.0 w.if-at-lt-RUN.true) w.step.ensures)
-        | else-at-lt-RUN w ↦
-            rw w.all-is
-            (none-gathers a.base a.n a.held l.all l.i h l.invariant.2 (λ j lj e. omega (arith, w.if-at-lt-RUN.false, c.place_in_run-at.ensures.1 j lj e)))
-      ],
-    )
+    let h : l.r-index < length a.records.now = omega arith in
+    elim c.match-place_in_run.branch [
+      | in-Some+in-Ok w ↦
+          rw w.all-is (
+            length-set l.all w.in-Some.at w.step.result ∙ l.invariant.0,
+            put-gathers a.base a.n a.records.now l.all l.r-index h l.invariant.1 w.in-Some.at w.in-Ok.acc w.step.result w.in-Some.ensures.0
+                (omega (arith, w.in-Some.ensures.0, l.invariant.0)) w.in-Some.ensures.1 w.in-Ok.is w.step.ensures,
+          )
+      | in-Some+in_default-all w ↦
+          rw w.all-is
+          (l.invariant.0, broken-gathers a.base a.n a.records.now l.all l.r-index h l.invariant.1 w.in-Some.at w.in-Some.ensures.0 w.in-Some.ensures.1 w.in_default-all.not-Ok)
+      | in_default w ↦
+          rw w.all-is (l.invariant.0, none-gathers a.base a.n a.records.now l.all l.r-index h l.invariant.1 w.in_default.ensures)
+    ]

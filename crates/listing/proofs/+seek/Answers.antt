@@ -26,6 +26,9 @@ seek-low-requires t c =
     let a = c.args in
     omega (arith, pow-pred a.cells (omega arith), count-pred a.cells a.v (omega arith) (omega arith))
 
+pub returns-then-is_some : goal.returns-then-is_some
+returns-then-is_some t c = seek-low _ _ _ _ _ _ (omega arith) (omega arith) c.seek-low.ensures (sym c.if-is_some.ensures)
+
 pub seek-requires : goal.seek-requires
 seek-requires t c =
     let a = c.args in
@@ -33,13 +36,10 @@ seek-requires t c =
       arith,
       pow-pred a.cells (omega arith),
       count-pred a.cells a.v (omega arith) (omega arith),
-      seek-count _ _ _ _ _ (sym c.in-Nothing.ensures),
+      seek-count _ _ _ _ _ _ c.seek-low.ensures (sym c.if-is_some.ensures),
     )
 
-pub returns-in-At : goal.returns-in-At
-returns-in-At t c = sym (seek-low _ _ _ _ _ (omega arith) (omega arith) (sym c.in-At.ensures))
-
-pub returns-in-Nothing : goal.returns-in-Nothing
-returns-in-Nothing t c =
+pub returns : goal.returns
+returns t c =
     c.seek.ensures
-    ∙ sym (seek-up _ _ _ _ _ (omega arith) (omega arith) c.cell_of.ensures (sym c.in-Nothing.ensures))
+    ∙ sym (seek-up _ _ _ _ _ _ (omega arith) (omega arith) c.cell_of.ensures c.seek-low.ensures (sym c.if-is_some.ensures))

@@ -1,26 +1,26 @@
--- `is_clear` meets its contract: no row passed has a product other than 0, and a word that is 0 at each bit is 0.
-use mathlib.Core.Path.{sym, ap, ◌∙◌}
-use Prim.Native.Nat.{ℕ}
-use borrow.Author.Tests.{eq-eqb, ne_eqb}
-use native.Mathlib.Omega.{arith}
-use lib.ListN.{length}
-use Rattle.paper.specs.Words.{cell, products}
+-- `is_clear` meets its contract: a word whose bits are products is 0 exactly if each product is.
+use Rattle.std.proofs.Common.{◌≡◌, ℕ, ◌<◌, Bool, true, false, List, length, eqb, sym, ap, ◌∙◌, rules, arith}
+use borrow.Author.Tests.{tests, eq-eqb, ne_eqb}
+use Rattle.std.specs.Bool.{MatchBool}
+use Rattle.std.specs.List.{AllWithin, HoldsAt}
+use Rattle.std.proofs.lemmas.Iterator.{YieldsList-from_slice, cases_from_all}
+use Rattle.paper.specs.Words.{cell, product, products}
 use Rattle.words.proofs.Cells.{cell-of-0, no_cell}
 use Rattle.words.proofs.Products.{products_lt, cell-products}
 use Rattle.listing.proofs.is_clear.Goals as goal
 
-pub returns-then-product_of-ne0 : goal.returns-then-product_of-ne0
-returns-then-product_of-ne0 c =
-    let a = c.args in
-    sym
-    (ne_eqb (products a.rows.now a.x) 0
-    (λ e. c.if-product_of-ne0.true
-    (c.product_of.ensures ∙ sym (cell-products a.rows.now a.x c.loop-i.i) ∙ ap (λ (w : ℕ). cell w c.loop-i.i) e ∙ cell-of-0 c.loop-i.i)))
+-- each product is 0, or that with some row is not
+clears : (rows : List ℕ) (x : ℕ) (r : Bool)
+    → MatchBool r (AllWithin (λ row. product row x ≡ 0) rows 0 (length rows)) ((k : ℕ) × (k < length rows) × HoldsAt (λ row. product row x ≡ 0 → ⊥) rows k)
+    → r ≡ eqb (products rows x) 0
+clears rows x true h =
+    sym (eq-eqb (products rows x) 0 (no_cell (length rows) (products_lt rows x) (λ j l. cell-products rows x j ∙ h j 0 (omega arith) l)))
+clears rows x false h =
+    sym (ne_eqb (products rows x) 0 (λ e. h.2 0 (sym (cell-products rows x h.0) ∙ ap (λ (w : ℕ). cell w h.0) e ∙ cell-of-0 h.0)))
 
 pub returns : goal.returns
 returns c =
-    let a = c.args in
-    sym
-    (eq-eqb (products a.rows.now a.x) 0
-    (no_cell (length a.rows.now) (products_lt a.rows.now a.x)
-    (λ j h. cell-products a.rows.now a.x j ∙ c.loop-i.invariant.1 j (omega arith))))
+    let x = c.args.x in
+    clears c.args.rows.now x c.all.result
+    (cases_from_all _ _ _ (λ row. product row x ≡ 0) (λ row. product row x ≡ 0 → ⊥) c.all.ensures.ran (YieldsList-from_slice c.args.rows.now cc)
+    (λ y q k. search (rules, tests)) (λ y q k. search (rules, tests)))

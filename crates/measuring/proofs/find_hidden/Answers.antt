@@ -1,11 +1,15 @@
 -- `find_hidden` meets its contract: M has rows, so a message other than 0 is asked for.
+use mathlib.Core.Path.{ap}
 use native.Mathlib.Omega.{arith}
-use Rattle.paper.specs.Sheet.{sheet}
+use borrow.Author.Rules.{rules}
+use lib.ListN.{length}
+use Prim.Native.Nat.{◌<◌}
+use Rattle.paper.specs.Sheet.{Sheet, M}
 use Rattle.measuring.proofs.Searching.{hidden_found}
 use Rattle.measuring.proofs.find_hidden.Goals as goal
 
 pub returns : goal.returns
 returns c =
-    let a = c.args in
-    hidden_found (sheet a.n a.k a.l a.rows.now) _ _ a.cap c.search_weights.ensures c.part.ensures c.part-2.ensures
-    (omega (arith, c.requires.0.count-M, c.requires.0.shape.some-message))
+    let i = c.sheet.invariant in
+    let some : 0 < length (M c.args.sheet.now) = omega (arith, i.count-M, i.shape.some-message, ap (λ (s : Sheet). length (M s)) c.sheet.view_is) in
+    search (rules, hidden_found, some, ap (λ (s : Sheet). s.n) c.sheet.view_is)

@@ -37,16 +37,16 @@ left ns copy page rest held s few fits t same is =
 
 pub write_page-told-requires-clause-page_value : goal.write_page-told-requires-clause-page_value
 write_page-told-requires-clause-page_value c =
-    copied c.args.ns.now c.copy_page-page.result c.smaller-held.result c.smaller-held.ensures c.copy_page-page.ensures
+    copied c.args.ns.now c.copy_page-page.result c.min-held.result c.min-held.ensures c.copy_page-page.ensures
 
 pub returns-then-few-clause-put : goal.returns-then-few-clause-put
 returns-then-few-clause-put c =
     let ns = c.args.ns.now in
-    let held = c.smaller-held.result in
-    let copy = copied ns c.copy_page-page.result held c.smaller-held.ensures c.copy_page-page.ensures in
+    let held = c.min-held.result in
+    let copy = copied ns c.copy_page-page.result held c.min-held.ensures c.copy_page-page.ensures in
     let same =
     left ns c.copy_page-page.result c.write_page-told.new.page _ held (slots ns c.requires.stands) c.if-few.true
-    (omega (arith, c.smaller-held.ensures)) copy c.write_page-told.auto.page c.write_page-told.ensures.page_after in
+    (omega (arith, c.min-held.ensures)) copy c.write_page-told.auto.page c.write_page-told.ensures.page_after in
     put-join (put-text (ap (spoken (bytes "word | d ")) c.write_page-told.ensures.result_value) c.say-said.ensures.put)
     (put-text (ap (listed (bytes " page ")) same) c.say_list.ensures.put)
 

@@ -12,16 +12,16 @@ use Rattle.pageverbs.proofs.Crowded.{written-clipped}
 use Rattle.pageverbs.proofs.write_page.Goals as goal
 
 pub copy_records-records-requires-clause-records : goal.copy_records-records-requires-clause-records
-copy_records-records-requires-clause-records c j h = records-hold (bytes "nw") c.args.ns.now c.requires.stands j (omega (arith, c.smaller-held.ensures))
+copy_records-records-requires-clause-records c j h = records-hold (bytes "nw") c.args.ns.now c.requires.stands j (omega (arith, c.min-held.ensures))
 
 pub returns-clause-result_value : goal.returns-clause-result_value
 returns-clause-result_value c =
-    c.of_written.ensures ∙ c.page_write.ensures.result_value
-    ∙ written-clipped c.args.ns.now c.args.page.now _ c.smaller-held.result c.requires.page_value c.smaller-held.ensures c.copy_records-records.ensures
+    c.from.ensures ∙ c.page_write.ensures.result_value
+    ∙ written-clipped c.args.ns.now c.args.page.now _ c.min-held.result c.sheet_of.ensures c.requires.page_value c.min-held.ensures c.copy_records-records.ensures
 
 pub returns-clause-page_after : goal.returns-clause-page_after
 returns-clause-page_after c =
     let ns = c.args.ns.now in
     c.page_write.ensures.page_after
     ∙ ap (λ (t : Told). page_after_write t c.args.page.now (at ns (records_end ns)))
-    (written-clipped ns c.args.page.now _ c.smaller-held.result c.requires.page_value c.smaller-held.ensures c.copy_records-records.ensures)
+    (written-clipped ns c.args.page.now _ c.min-held.result c.sheet_of.ensures c.requires.page_value c.min-held.ensures c.copy_records-records.ensures)

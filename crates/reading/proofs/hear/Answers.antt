@@ -4,17 +4,20 @@ use mathlib.Core.List.{List, [], ◌∷◌}
 use Prim.Native.Nat.{ℕ}
 use Rattle.paper.specs.Reading.{heard}
 use Rattle.paper.specs.Refusals.{answer}
-use Rattle.paper.specs.Sheet.{sheet}
 use Rattle.paper.specs.Words.{products, ◌⊕◌}
-use Rattle.listing.specs.Searches.{searched}
+use Rattle.listing.proofs.Tests.{searched-found, searched-missed}
 use Rattle.reading.proofs.hear.Goals as goal
 
-pub returns-in-At : goal.returns-in-At
+pub returns-in-Some : goal.returns-in-Some
 unfolding ◌⊕◌
-returns-in-At c =
+returns-in-Some c =
     let a = c.args in
-    let z = c.in-At.z in
-    let tried = c.in-At.tried in
-    let s = sheet a.n a.k a.l a.rows.now in
-    ap (λ (m : ℕ). answer (m ∷ z ∷ tried ∷ [])) (c.products_of.ensures ∙ ap (λ (g : List ℕ). products g (a.y ⊕ z)) c.part.ensures)
-    ∙ ap (heard s a.y) (sym (ap searched c.in-At.is) ∙ c.find_nearest.ensures)
+    let f = c.find_nearest-z.result in
+    let z = c.in-Some.z in
+    ap (λ (m : ℕ). answer (m ∷ z ∷ f.tried ∷ [])) (c.products_of.ensures ∙ ap (λ (g : List ℕ). products g (a.y ⊕ z)) c.m-m.ensures.rows)
+    ∙ ap (heard a.sheet.now a.y) (sym (searched-found f c.in-Some.is) ∙ c.find_nearest-z.ensures)
+
+pub returns-in-None : goal.returns-in-None
+returns-in-None c =
+    let a = c.args in
+    ap (heard a.sheet.now a.y) (sym (searched-missed c.find_nearest-z.result c.in-None.is) ∙ c.find_nearest-z.ensures)

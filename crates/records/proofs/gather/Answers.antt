@@ -1,25 +1,25 @@
--- `gather` meets its contract: a step takes one record more.
-use Rattle.std.proofs.Common.{ap, ◌∙◌, ◌≡◌, get_or, take, arith}
-use Rattle.paper.specs.Page.{no_record}
-use Rattle.records.specs.Gather.{step_of, gather_of}
-use Rattle.records.specs.declared.Gathered.{Gathered}
-use Rattle.records.proofs.Gathers.{gathers-none, gathers-next, gathers-few}
+-- `gather` meets its contract: a step takes one record more, and behind the first that breaks the rule nothing changes.
+use Rattle.std.proofs.Common.{sym, ◌∙◌, ◌+◌, arith}
+use Rattle.std.proofs.lemmas.Result.{err_from_is_err_and}
+use Rattle.records.proofs.Gathers.{gathers-none, gathers-step, gathers-broken, gathers-few}
 use Rattle.records.proofs.gather.Goals as goal
 
-pub loop-i-init : goal.loop-i-init
-loop-i-init c = (omega arith, gathers-none c.args.slot c.args.n)
+pub loop-r-init : goal.loop-r-init
+loop-r-init c = gathers-none c.args.slot c.args.n
 
-pub step-acc-requires : goal.step-acc-requires
-step-acc-requires c =
+pub step-requires : goal.step-requires
+step-requires c =
     let a = c.args in
-    let e : c.loop-i.acc.place ≡ (gather_of a.slot a.n (take c.loop-i.i a.records.now)).place = ap (λ (g : Gathered). g.place) c.loop-i.invariant.1 in
-    omega (arith, e, gathers-few a.slot a.n a.records.now c.loop-i.i)
+    omega (arith, gathers-few a.slot a.n a.records.now c.loop-r.r-index (sym c.loop-r.invariant))
 
-pub loop-i-preserved : goal.loop-i-preserved
-loop-i-preserved c =
-    let a = c.args in (
-      omega arith,
-      c.step-acc.ensures
-          ∙ ap (λ (g : Gathered). step_of a.slot a.n g (get_or a.records.now c.loop-i.i no_record)) c.loop-i.invariant.1
-          ∙ gathers-next a.slot a.n a.records.now c.loop-i.i (omega arith),
-    )
+pub returns-in_err-acc : goal.returns-in_err-acc
+returns-in_err-acc c =
+    let a = c.args in
+    let p = err_from_is_err_and c.from_residual.result c.from_residual.ensures.1 in
+    let e = gathers-step a.slot a.n a.records.now c.loop-r.r-index (omega arith) c.loop-r.invariant in
+    rw (p.1, p.2) (sym (gathers-broken a.slot a.n a.records.now (c.loop-r.r-index + 1) (sym e ∙ sym c.step.ensures ∙ c.in_err-acc.was)))
+
+pub loop-r-preserved : goal.loop-r-preserved
+loop-r-preserved c =
+    let a = c.args in
+    sym c.in_ok-acc.was ∙ c.step.ensures ∙ gathers-step a.slot a.n a.records.now c.loop-r.r-index (omega arith) c.loop-r.invariant

@@ -2,36 +2,30 @@
 use mathlib.Core.Path.{refl, sym, ap}
 use mathlib.Core.Bool.{not}
 use borrow.Author.Rules.{rules}
-use native.Mathlib.Omega.{arith}
 use Rattle.paper.specs.First.{first}
 use Rattle.words.proofs.Firsts.{none_more, first-hit, any-hit, any_none}
 use Rattle.sheet.proofs.Tests.{eqb_yes, eqb_no}
 use Rattle.sheet.proofs.find_off.Goals as goal
 
-pub loop-j-preserved : goal.loop-j-preserved
-loop-j-preserved c = (
-  search rules,
-  none_more _ _ c.loop-j.invariant.1
-      (ap not (eqb_yes c.product_of.ensures c.wanted_of.ensures c.if-product_of-wanted_of.false)),
-)
+pub loop-i-init : goal.loop-i-init
+unfolding first
+loop-i-init c = refl
 
-pub rows-preserved : goal.rows-preserved
-rows-preserved c = (
-  search rules,
-  none_more _ _ c.rows.invariant.1 (any_none _ _ _ c.loop-j.invariant.0 (search rules) c.loop-j.invariant.1),
-)
+pub loop-j-init : goal.loop-j-init
+unfolding first
+loop-j-init c = refl
+
+pub loop-j-preserved : goal.loop-j-preserved
+loop-j-preserved c =
+    none_more _ _ c.loop-j.invariant
+    (ap not (eqb_yes c.product_of.ensures c.wanted_of.ensures c.if-product_of-wanted_of.false))
+
+pub loop-i-preserved : goal.loop-i-preserved
+loop-i-preserved c = none_more _ _ c.loop-i.invariant (any_none _ _ _ (search rules) (search rules) c.loop-j.invariant)
 
 pub returns-then-product_of-wanted_of : goal.returns-then-product_of-wanted_of
 returns-then-product_of-wanted_of c =
     sym
-    (first-hit _ _ _ (search rules) c.rows.invariant.1
-    (any-hit _ _ _ (search rules) c.loop-j.invariant.1
+    (first-hit _ _ _ (search rules) c.loop-i.invariant
+    (any-hit _ _ _ (search rules) c.loop-j.invariant
     (ap not (eqb_no c.product_of.ensures c.wanted_of.ensures c.if-product_of-wanted_of.true))))
-
-pub rows-init : goal.rows-init
-unfolding first
-rows-init c = (omega arith, refl)
-
-pub loop-j-init : goal.loop-j-init
-unfolding first
-loop-j-init c = (omega arith, refl)

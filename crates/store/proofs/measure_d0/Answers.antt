@@ -1,22 +1,17 @@
 -- `measure_d0` meets its contract: a refusal of the sheet is the call's, and an admitted sheet passes to the call's own answer.
-use Rattle.paper.specs.Sheet.{sheet}
+use mathlib.Core.Path.{ap, ◌∙◌}
+use Rattle.paper.specs.Sheet.{Sheet}
 use Rattle.paper.specs.Plate.{measures_admitted_d0, measures_d0}
-use Rattle.sheet.proofs.Calls.{call-refused, call-sound, call-answer}
+use Rattle.sheet.proofs.Calls.{call-refused, call-answer}
 use Rattle.store.proofs.measure_d0.Goals as goal
 
-pub measure_d0-requires : goal.measure_d0-requires
-measure_d0-requires c = call-sound _ _ c.admit.ensures c.in-Admitted.is
-
-pub returns-in-Refused : goal.returns-in-Refused
+pub returns-in-Err : goal.returns-in-Err
 unfolding measures_d0
-returns-in-Refused c =
-    let a = c.args in
-    let s = sheet a.n a.k a.l a.rows.now in
-    call-refused s _ c.admit.ensures _ (measures_admitted_d0 s a.cap) c.in-Refused.is
+returns-in-Err c = let a = c.args in call-refused a.sheet.now c.admit.ensures.told (measures_admitted_d0 a.sheet.now a.cap) c.in-Err.is
 
-pub returns-in-Admitted : goal.returns-in-Admitted
+pub returns-in-Ok : goal.returns-in-Ok
 unfolding measures_d0
-returns-in-Admitted c =
+returns-in-Ok c =
     let a = c.args in
-    let s = sheet a.n a.k a.l a.rows.now in
-    call-answer s _ c.admit.ensures (measures_admitted_d0 s a.cap) c.in-Admitted.is c.measure_d0.ensures
+    call-answer a.sheet.now c.admit.ensures.told c.in-Ok.is (measures_admitted_d0 a.sheet.now a.cap)
+    (c.measure_d0.ensures ∙ ap (λ (s : Sheet). measures_admitted_d0 s a.cap) c.in-Ok.ensures.same)

@@ -1,22 +1,17 @@
 -- `read` meets its contract: a refusal of the sheet is the call's, and an admitted sheet passes to the call's own answer.
-use Rattle.paper.specs.Sheet.{sheet}
+use mathlib.Core.Path.{ap, ◌∙◌}
+use Rattle.paper.specs.Sheet.{Sheet}
 use Rattle.paper.specs.Reading.{reads_admitted, reads}
-use Rattle.sheet.proofs.Calls.{call-refused, call-sound, call-answer}
+use Rattle.sheet.proofs.Calls.{call-refused, call-answer}
 use Rattle.store.proofs.read.Goals as goal
 
-pub read-requires : goal.read-requires
-read-requires c = call-sound _ _ c.admit.ensures c.in-Admitted.is
-
-pub returns-in-Refused : goal.returns-in-Refused
+pub returns-in-Err : goal.returns-in-Err
 unfolding reads
-returns-in-Refused c =
-    let a = c.args in
-    let s = sheet a.n a.k a.l a.rows.now in
-    call-refused s _ c.admit.ensures _ (reads_admitted s a.y a.radius) c.in-Refused.is
+returns-in-Err c = let a = c.args in call-refused a.sheet.now c.admit.ensures.told (reads_admitted a.sheet.now a.y a.radius) c.in-Err.is
 
-pub returns-in-Admitted : goal.returns-in-Admitted
+pub returns-in-Ok : goal.returns-in-Ok
 unfolding reads
-returns-in-Admitted c =
+returns-in-Ok c =
     let a = c.args in
-    let s = sheet a.n a.k a.l a.rows.now in
-    call-answer s _ c.admit.ensures (reads_admitted s a.y a.radius) c.in-Admitted.is c.read.ensures
+    call-answer a.sheet.now c.admit.ensures.told c.in-Ok.is (reads_admitted a.sheet.now a.y a.radius)
+    (c.read.ensures ∙ ap (λ (s : Sheet). reads_admitted s a.y a.radius) c.in-Ok.ensures.same)

@@ -1,22 +1,17 @@
 -- `write` meets its contract: a refusal of the sheet is the call's, and an admitted sheet passes to the call's own answer.
-use Rattle.paper.specs.Sheet.{sheet}
+use mathlib.Core.Path.{ap, ◌∙◌}
+use Rattle.paper.specs.Sheet.{Sheet}
 use Rattle.paper.specs.Writing.{writes_admitted, writes}
-use Rattle.sheet.proofs.Calls.{call-refused, call-sound, call-answer}
+use Rattle.sheet.proofs.Calls.{call-refused, call-answer}
 use Rattle.store.proofs.write.Goals as goal
 
-pub write-requires : goal.write-requires
-write-requires c = call-sound _ _ c.admit.ensures c.in-Admitted.is
-
-pub returns-in-Refused : goal.returns-in-Refused
+pub returns-in-Err : goal.returns-in-Err
 unfolding writes
-returns-in-Refused c =
-    let a = c.args in
-    let s = sheet a.n a.k a.l a.rows.now in
-    call-refused s _ c.admit.ensures _ (writes_admitted s a.message a.stuck a.levels) c.in-Refused.is
+returns-in-Err c = let a = c.args in call-refused a.sheet.now c.admit.ensures.told (writes_admitted a.sheet.now a.message a.stuck a.levels) c.in-Err.is
 
-pub returns-in-Admitted : goal.returns-in-Admitted
+pub returns-in-Ok : goal.returns-in-Ok
 unfolding writes
-returns-in-Admitted c =
+returns-in-Ok c =
     let a = c.args in
-    let s = sheet a.n a.k a.l a.rows.now in
-    call-answer s _ c.admit.ensures (writes_admitted s a.message a.stuck a.levels) c.in-Admitted.is c.write.ensures
+    call-answer a.sheet.now c.admit.ensures.told c.in-Ok.is (writes_admitted a.sheet.now a.message a.stuck a.levels)
+    (c.write.ensures ∙ ap (λ (s : Sheet). writes_admitted s a.message a.stuck a.levels) c.in-Ok.ensures.same)

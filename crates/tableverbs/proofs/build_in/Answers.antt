@@ -8,5 +8,5 @@ use Rattle.tableverbs.proofs.build_in.Goals as goal
 
 pub returns-clause-put : goal.returns-clause-put
 returns-clause-put c =
-    put-join (put-text (ap (spoken (bytes "done")) (c.of_outcome-told.ensures ∙ c.build.ensures.result_value)) c.say-said.ensures.put)
+    put-join (put-text (ap (spoken (bytes "done")) (c.from-told.ensures ∙ c.build.ensures.result_value)) c.say-said.ensures.put)
     (put-text (ap (listed (bytes " room ")) c.build.ensures.room_after) c.say_list.ensures.put)

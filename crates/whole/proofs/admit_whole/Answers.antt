@@ -1,15 +1,14 @@
 -- `admit_whole` meets its contract: 1 to 6, 16 and 13, then 25.
-use mathlib.Core.Path.{◌≡◌}
+use mathlib.Core.Path.{refl}
 use mathlib.Core.Bool.{Bool, ◌&&◌}
 use mathlib.Core.List.{[]}
 use Prim.Native.Nat.{ℕ}
 use borrow.Author.Tests.{eq-eqb, ne_eqb}
 use lib.Dec.{eqb, leb}
-use Rattle.paper.specs.Page.{most_slots, most_records, paged}
-use Rattle.paper.specs.Refusals.{Told, answer, admission, unless}
-use Rattle.paper.specs.Sheet.{Sheet, sheet}
-use Rattle.paper.specs.declared.Admission.{Admission}
-use Rattle.rules.proofs.Rules.{unless-stop}
+use Rattle.std.proofs.lemmas.Result.{err_from_is_err_and}
+use Rattle.paper.specs.Page.{most_slots, most_records}
+use Rattle.paper.specs.Refusals.{answer}
+use Rattle.rules.proofs.Rules.{unless-stop, unless-pass}
 use Rattle.rules.proofs.Stages.{told-refused, told-next}
 use Rattle.opening.proofs.Judging.{paged-stage, paged-tested}
 use Rattle.whole.proofs.admit_whole.Goals as goal
@@ -22,30 +21,29 @@ few slots count = leb slots most_slots && leb count most_records
 abbrev one_each : ℕ → ℕ → ℕ → Bool
 one_each slots messages notes = eqb messages slots && eqb notes slots
 
-abbrev from-25 : ℕ → ℕ → ℕ → Told
-from-25 slots messages notes = unless (one_each slots messages notes) 25 (answer [])
-
-module _ (s : Sheet) (number slots count messages notes : ℕ) (verdict : Admission) {tested : Bool} (e : tested ≡ few slots count) (q : admission verdict ≡ paged s number tested (answer [])) where
-  -- past 13, what is told from 25 on is told
-  past-13 : verdict ≡ Admission.Admitted → (told : Told) → told ≡ from-25 slots messages notes → told ≡ paged s number (few slots count) (from-25 slots messages notes)
-  past-13 h told = told-next (paged-stage s number (few slots count)) verdict (paged-tested s number e q) h (from-25 slots messages notes)
-
-pub returns-in-Refused : goal.returns-in-Refused
-returns-in-Refused c =
+pub returns-in_err-admitted-clause-told : goal.returns-in_err-admitted-clause-told
+returns-in_err-admitted-clause-told c =
     let a = c.args in
-    let s = sheet a.n a.k a.l a.rows.now in
-    told-refused (paged-stage s a.number (few a.slots a.count)) _ (paged-tested s a.number c.are_few.ensures c.admit.ensures) _
-    (from-25 a.slots a.messages a.notes) c.in-Refused.is
+    let p = err_from_is_err_and c.from_residual.result c.from_residual.ensures.1 in
+    rw (p.1, p.2)
+    (told-refused (paged-stage a.sheet.now a.number (few a.slots a.count)) (paged-tested a.sheet.now a.number c.are_few.ensures c.admit.ensures.told) _ c.in_err-admitted.was)
 
-pub returns-then-messages-slots : goal.returns-then-messages-slots
-returns-then-messages-slots c =
+pub returns-then-messages-slots-clause-told : goal.returns-then-messages-slots-clause-told
+returns-then-messages-slots-clause-told c =
     let a = c.args in
-    past-13 (sheet a.n a.k a.l a.rows.now) a.number a.slots a.count a.messages a.notes _ c.are_few.ensures c.admit.ensures c.in_default.is _
+    told-next (paged-stage a.sheet.now a.number (few a.slots a.count)) (paged-tested a.sheet.now a.number c.are_few.ensures c.admit.ensures.told) c.in_ok-admitted.was _
     (unless-stop 25 (answer []) {test = one_each a.slots a.messages a.notes} (rw (ne_eqb a.messages a.slots c.if-messages-slots.true)))
 
-pub returns-then-notes-slots : goal.returns-then-notes-slots
-returns-then-notes-slots c =
+pub returns-then-notes-slots-clause-told : goal.returns-then-notes-slots-clause-told
+returns-then-notes-slots-clause-told c =
     let a = c.args in
-    past-13 (sheet a.n a.k a.l a.rows.now) a.number a.slots a.count a.messages a.notes _ c.are_few.ensures c.admit.ensures c.in_default.is _
+    told-next (paged-stage a.sheet.now a.number (few a.slots a.count)) (paged-tested a.sheet.now a.number c.are_few.ensures c.admit.ensures.told) c.in_ok-admitted.was _
     (unless-stop 25 (answer []) {test = one_each a.slots a.messages a.notes}
     (rw (eq-eqb a.messages a.slots c.if-messages-slots.false, ne_eqb a.notes a.slots c.if-notes-slots.true)))
+
+pub returns-clause-told : goal.returns-clause-told
+returns-clause-told c =
+    let a = c.args in
+    told-next (paged-stage a.sheet.now a.number (few a.slots a.count)) (paged-tested a.sheet.now a.number c.are_few.ensures c.admit.ensures.told) c.in_ok-admitted.was _
+    (unless-pass 25 (answer []) {test = one_each a.slots a.messages a.notes}
+    (rw (eq-eqb a.messages a.slots c.if-messages-slots.false, eq-eqb a.notes a.slots c.if-notes-slots.false)) refl)

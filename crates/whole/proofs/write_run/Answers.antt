@@ -3,7 +3,6 @@ use mathlib.Core.Path.{ap, ◌∙◌}
 use Prim.Native.Nat.{◌+◌, ◌<◌}
 use native.Mathlib.Omega.{arith}
 use lib.ListN.{length, length-set}
-use Rattle.paper.specs.Sheet.{sheet}
 use Rattle.held.specs.Runs.{run}
 use Rattle.rules.proofs.Rooms.{length-kept}
 use Rattle.whole.proofs.Turns.{run_told, page-turn, notes-turn}
@@ -14,12 +13,10 @@ loop-i-preserved c =
     let l = c.loop-i in
     let g = c.gather_run-gathered in
     let a = c.args in
-    let s = sheet a.n a.k a.l a.rows.now in
+    let s = a.sheet.now in
     let within : l.i < a.base + run = omega arith in (
-      omega arith,
-      omega arith,
-      ap length c.put.ensures.page_after ∙ length-kept l.page l.i (run_told s g.result a.messages.now a.base l.i) ∙ l.invariant.2,
-      length-set l.notes l.i _ ∙ l.invariant.3,
-      rw c.put.ensures.page_after (page-turn s g.result a.messages.now a.base a.page.now l.page l.i l.invariant.0 within l.invariant.4),
-      rw (c.note_of.ensures, c.put.ensures.result_value) (notes-turn s g.result a.messages.now a.base a.notes.now l.notes l.i l.invariant.0 within l.invariant.5),
+      ap length c.put.ensures.page_after ∙ length-kept l.page l.i (run_told s g.result a.messages.now a.base l.i) ∙ l.invariant.0,
+      length-set l.notes l.i _ ∙ l.invariant.1,
+      rw c.put.ensures.page_after (page-turn s g.result a.messages.now a.base a.page.now l.page l.i (omega arith) within l.invariant.2),
+      rw (c.note_of.ensures, c.put.ensures.result_value) (notes-turn s g.result a.messages.now a.base a.notes.now l.notes l.i (omega arith) within l.invariant.3),
     )

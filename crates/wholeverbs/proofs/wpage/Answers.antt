@@ -10,4 +10,4 @@ use Rattle.wholeverbs.proofs.wpage.Goals as goal
 pub write_in-requires-clause-page_value : goal.write_in-requires-clause-page_value
 write_in-requires-clause-page_value c =
     let ns = c.args.ns.now in
-    c.copy_page-page.ensures ∙ words-clipped c.smaller-held.result (at ns (page_at ns)) room_slots (page_at ns + 1) ns c.smaller-held.ensures
+    c.copy_page-page.ensures ∙ words-clipped c.min-held.result (at ns (page_at ns)) room_slots (page_at ns + 1) ns c.min-held.ensures

@@ -8,19 +8,19 @@ use Rattle.wholeverbs.proofs.Clipped.{Lends, first-records, told-clipped, page-c
 use Rattle.wholeverbs.proofs.write_whole.Goals as goal
 
 pub copy_records-records-requires-clause-records : goal.copy_records-records-requires-clause-records
-copy_records-records-requires-clause-records c j h = records-hold (bytes "Lmw") c.args.ns.now c.requires.stands j (omega (arith, c.smaller-held.ensures))
+copy_records-records-requires-clause-records c j h = records-hold (bytes "Lmw") c.args.ns.now c.requires.stands j (omega (arith, c.min-held.ensures))
 
 pub returns : goal.returns
 returns c =
-    let lent : Lends c.args.ns.now _ _ _ _ _ = record {
-      rows_are = c.list_at.ensures;
+    let lent : Lends _ c.args.ns.now _ _ _ _ = record {
+      sheet_is = c.sheet_of.ensures;
       page_is = c.requires.page_value;
-      records_are = first-records c.args.ns.now _ c.smaller-held.result c.smaller-held.ensures c.copy_records-records.ensures;
-      messages_are = c.list_at-2.ensures;
+      records_are = first-records c.args.ns.now _ c.min-held.result c.min-held.ensures c.copy_records-records.ensures;
+      messages_are = c.list_at.ensures;
       notes_are = c.requires.notes_value;
     } in
     record {
-      result_value = c.of_outcome.ensures ∙ c.write_held.ensures.result_value ∙ told-clipped lent;
-      page_after = λ h. c.write_held.ensures.page_after ∙ page-clipped lent h;
-      notes_after = c.write_held.ensures.notes_after ∙ notes-clipped lent;
+      result_value = c.from.ensures ∙ c.page_write_all.ensures.result_value ∙ told-clipped lent;
+      page_after = λ h. c.page_write_all.ensures.page_after ∙ page-clipped lent h;
+      notes_after = c.page_write_all.ensures.notes_after ∙ notes-clipped lent;
     }

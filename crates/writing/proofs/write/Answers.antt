@@ -1,5 +1,5 @@
 -- `write` meets its contract: rules 7 and 8 in their order, then the word.
-use mathlib.Core.Path.{sym, ap, ◌∙◌}
+use mathlib.Core.Path.{refl, sym, ap, ◌∙◌}
 use native.Mathlib.Omega.{arith}
 use Rattle.paper.specs.Words.{width}
 use Rattle.paper.specs.Writing.{writes_admitted}
@@ -10,22 +10,22 @@ use Rattle.writing.proofs.write.Goals as goal
 
 pub returns-then-not-is_low : goal.returns-then-not-is_low
 unfolding writes_admitted
-returns-then-not-is_low c = unless-stop 7 _ (sym c.is_low.ensures ∙ c.if-not-is_low.true)
+returns-then-not-is_low c = rw (← c.sheet.view_is) (unless-stop 7 _ (sym c.is_low.ensures ∙ c.if-not-is_low.true))
 
-pub returns-in-At : goal.returns-in-At
+pub returns-in-Some : goal.returns-in-Some
 unfolding writes_admitted
-returns-in-At c =
-    unless-pass 7 _ (sym c.is_low.ensures ∙ c.if-not-is_low.false)
-    (stop-first 8 _ c.find_misplaced.ensures c.in-At.is)
+returns-in-Some c =
+    rw (← c.sheet.view_is)
+    (unless-pass 7 _ (sym c.is_low.ensures ∙ c.if-not-is_low.false)
+    (stop-first 8 _ c.find_misplaced.ensures c.in-Some.is))
 
 pub choose_word-requires : goal.choose_word-requires
-choose_word-requires c = (
-  c.requires,
-  levels-inside width _ _ _ (omega arith) (sym c.find_misplaced.ensures ∙ ap as_first c.in_default.is),
-)
+choose_word-requires c = levels-inside width _ _ _ (omega arith) (sym c.find_misplaced.ensures ∙ ap as_first c.in_default.is)
 
 pub returns : goal.returns
 unfolding writes_admitted
 returns c =
-    unless-pass 7 _ (sym c.is_low.ensures ∙ c.if-not-is_low.false)
-    (pass 8 _ c.find_misplaced.ensures 0 c.in_default.is c.choose_word.ensures)
+    c.choose_word.ensures
+    ∙ rw (← c.sheet.view_is)
+    (unless-pass 7 _ (sym c.is_low.ensures ∙ c.if-not-is_low.false)
+    (pass 8 _ c.find_misplaced.ensures 0 c.in_default.is refl))

@@ -8,12 +8,12 @@ use Rattle.lines.proofs.call.parse.Goals as goal
 pub returns-clause-meaning : goal.returns-clause-meaning
 returns-clause-meaning c =
     let a = c.args in
-    c.parse_trimmed.ensures.meaning ∙ ap (comes unknown calling silent a.table.now) c.trimmed_end-end.ensures.trimmed_line
+    c.parse_trimmed.ensures.meaning ∙ ap (comes unknown calling silent a.table.now) c.trimmed.ensures
     ∙ sym (asked-trimmed a.table.now a.line.now)
 
 pub returns-clause-numbers_after : goal.returns-clause-numbers_after
 returns-clause-numbers_after c =
     let a = c.args in
     let room = a.numbers.now in
-    c.parse_trimmed.ensures.numbers_after ∙ ap (comes room (storing room) room a.table.now) c.trimmed_end-end.ensures.trimmed_line
+    c.parse_trimmed.ensures.numbers_after ∙ ap (comes room (storing room) room a.table.now) c.trimmed.ensures
     ∙ sym (asked_in-trimmed a.table.now a.line.now room)

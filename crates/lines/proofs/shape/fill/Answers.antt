@@ -1,185 +1,161 @@
 -- `fill` meets its contract: the numbers read and those of the tokens and letters that are left are all the numbers.
 -- Each number takes two bytes of the line at least, so that the room for the numbers cannot run out.
-use mathlib.Core.Path.{◌≡◌, refl, sym, ap, ◌∙◌}
+use mathlib.Core.Path.{◌≡◌, sym, ap, ◌∙◌}
 use mathlib.Core.List.{List, [], ◌∷◌, ◌++◌, append-nil}
-use mathlib.Core.Option.{Option, some}
-use Prim.Native.Nat.{ℕ, ◌+◌, ◌-◌, ◌*◌, ◌≤◌, ◌<◌}
+use Prim.Native.Nat.{ℕ, ◌+◌, ◌*◌, ◌≤◌, ◌<◌}
 use native.Mathlib.Omega.{arith}
-use lib.ListN.{length, take, drop, get_or, length-set, length-take, set}
-use Rattle.text.specs.declared.Number.{Number}
+use lib.ListN.{length, take, drop, length-set, set}
+use Rattle.std.specs.Prelude.{Option, Some, None, is_some, slice_get}
+use Rattle.std.proofs.lemmas.Option.{MatchOption-at_none, MatchOption-at_some}
 use Rattle.text.specs.Numerals.{numeral}
 use Rattle.text.specs.Tokens.{up_to, cut}
-use Rattle.text.proofs.Tokens.{end-le, cut_at, cut-end, cut-first}
+use Rattle.text.proofs.Tokens.{up_to-le, first_piece}
 use Rattle.text.proofs.Numerals.{numeral-most, numeral-long}
-use Rattle.lines.specs.Shapes.{fill as Shapes·fill, filled, unread, unrolled, most_of}
-use Rattle.lines.proofs.Shapes.{after, none_left, some_left, turn-over, turn-none, turn-next, stores, fill_done, fill-short, filled-over, filled_none, filled-one, filled-end}
+use Rattle.lines.specs.Shapes.{fill, filled, counted, held, unread, unrolled, most_of}
+use Rattle.lines.proofs.Shapes.{after, turn-over, turn-none, turn-next, room-over, room-none, room-next, stores, fill_done, fill-short, filled-end}
 use Rattle.lines.proofs.shape.fill.Goals as goal
 
--- what was read of a token by the letter, as what is read of it by the first of those that are left
-by_letter : (u token : List ℕ) (letter most : ℕ) (n : Number) → letter ≡ get_or u 0 0 → most ≡ most_of letter → n ≡ numeral most token
-    → numeral (most_of (get_or u 0 0)) token ≡ n
-by_letter u token letter most n l m e = sym (e ∙ ap (λ (k : ℕ). numeral k token) (m ∙ ap most_of l))
+-- what was read of a token, by the letter whose place the most is of
+by_letter : (letter most : ℕ) (token : List ℕ) (n : Option ℕ) → most ≡ most_of letter → n ≡ numeral most token → numeral (most_of letter) token ≡ n
+by_letter letter most token n m e = sym (e ∙ ap (λ (k : ℕ). numeral k token) m)
 
--- the token from `at` to e is the number x, which its letter's place holds
-module _ (line u : List ℕ) (at e x : ℕ) (value : numeral (most_of (get_or u 0 0)) (take (e - at) (drop at line)) ≡ Number.Value x) where
-  -- it takes a byte at least
-  long : at < e
-  long = omega (arith, numeral-long (most_of (get_or u 0 0)) (take (e - at) (drop at line)) x value, length-take (e - at) (drop at line))
+-- a number takes a byte at least, so that there is room for it
+roomy : (rest token : List ℕ) (most x count bytes numbers : ℕ) → token ≡ up_to 32 rest → Some x ≡ numeral most token → 2 * count + length rest ≤ bytes
+    → bytes ≤ 2 * numbers → count < numbers
+roomy rest token most x count bytes numbers is value few wide = omega (arith, numeral-long most token x (sym value), up_to-le 32 rest, ap length is)
 
-  -- there is room for it
-  roomy : (count : ℕ) (numbers : List ℕ) → e ≤ length line → length line ≤ 2 * length numbers → 2 * count ≤ at → count < length numbers
-  roomy count numbers i r k = omega (arith, long)
+-- the token is the number x, of the next letter, and ts are the tokens behind it
+module _ (numbers u u' token tokens : List ℕ) (count letter x : ℕ) (ts : List (List ℕ)) (first : cut 32 tokens ≡ token ∷ ts)
+    (next : slice_get u 0 ≡ Some letter) (value : numeral (most_of letter) token ≡ Some x) (behind : u' ≡ unrolled letter x ++ drop 1 u) where
+  -- the numbers with x
+  more : (whole : Option (List ℕ)) → count < length numbers → whole ≡ after (take count numbers) (fill u (cut 32 tokens))
+      → whole ≡ after (take (count + 1) (set numbers count x)) (fill u' ts)
+  more whole k inv =
+      turn-next whole (take count numbers) u token ts (inv ∙ ap (λ (t : List (List ℕ)). after (take count numbers) (fill u t)) first) letter next x u' value behind
+      ∙ ap (λ (xs : List ℕ). after xs (fill u' ts)) (sym (stores numbers count x k))
 
-  module _ (count : ℕ) (numbers u' : List ℕ) (ts : List (List ℕ)) (left : 0 < length u) (p : u' ≡ unrolled (get_or u 0 0) x ++ drop 1 u)
-      (first : cut 32 (drop at line) ≡ take (e - at) (drop at line) ∷ ts) where
-    -- the numbers with x, and the tokens behind it
-    next : (whole : Option (List ℕ)) → count < length numbers → whole ≡ after (take count numbers) (Shapes·fill u (cut 32 (drop at line)))
-        → whole ≡ after (take (count + 1) (set numbers count x)) (Shapes·fill u' ts)
-    next whole k inv =
-        turn-next whole (take count numbers) u (take (e - at) (drop at line)) ts
-        (inv ∙ ap (λ (t : List (List ℕ)). after (take count numbers) (Shapes·fill u t)) first) left x u' value p
-        ∙ ap (λ (xs : List ℕ). after xs (Shapes·fill u' ts)) (sym (stores numbers count x k))
+  -- the room with x stored
+  stored_more : (whole : List ℕ) → whole ≡ filled count numbers u (cut 32 tokens) → whole ≡ filled (count + 1) (set numbers count x) u' ts
+  stored_more whole inv =
+      room-next whole count numbers u token ts (inv ∙ ap (filled count numbers u) first) letter next x u' value behind
 
-    -- the room with x stored, and the tokens behind it
-    stored_next : (room : List ℕ) → room ≡ filled count numbers u (cut 32 (drop at line)) → room ≡ filled (count + 1) (set numbers count x) u' ts
-    stored_next room inv =
-        inv ∙ ap (filled count numbers u) first ∙ filled-one count numbers u (take (e - at) (drop at line)) ts left x u' value p
-
-pub returns-then-is_read : goal.returns-then-is_read
-returns-then-is_read c =
-    let l = c.loop-c in
-    let line = c.args.line.now in
-    let u = unread l.c c.args.shape.now in
-    let e = l.at + length (up_to 32 (drop l.at line)) in
-    let first = cut-first 32 line l.at e l.invariant.0 refl in
-    let over = none_left u c.is_read.ensures c.if-is_read.true in
+pub returns-in_err-letter : goal.returns-in_err-letter
+returns-in_err-letter c =
+    let l = c.loop-letter in
+    let token = c.next_token.result.0.now in
+    let u = unread l.cursor in
+    let first = first_piece 32 l.rest.now token c.next_token.result.1 c.next_token.ensures.pieces in
+    let over = sym c.in_err-letter.ensures in
     record {
       meaning =
-          sym (turn-over _ (take l.count l.numbers) u (take (e - l.at) (drop l.at line)) first.0
-          (l.invariant.4 ∙ ap (λ (k : List (List ℕ)). after (take l.count l.numbers) (Shapes·fill u k)) first.1) over);
-      result_in_bounds = omega arith;
-      numbers_after =
-          sym (l.invariant.5 ∙ ap (filled l.count l.numbers u) first.1
-          ∙ filled-over l.count l.numbers u (take (e - l.at) (drop l.at line)) first.0 over);
+          ap (λ (n : Option ℕ). counted n l.numbers) c.from_residual.ensures
+          ∙ sym (turn-over _ (take l.count l.numbers) u token first.0
+          (l.invariant.whole ∙ ap (λ (t : List (List ℕ)). after (take l.count l.numbers) (fill u t)) first.1) over);
+      result_in_bounds = omega (arith, ap held c.from_residual.ensures);
+      numbers_after = sym (room-over _ l.count l.numbers u token first.0 (l.invariant.room ∙ ap (filled l.count l.numbers u) first.1) over);
     }
 
-pub slice_bounds-parse_number-end : goal.slice_bounds-parse_number-end
-slice_bounds-parse_number-end c = end-le 32 c.args.line.now c.loop-c.at c.end_of-end.result c.loop-c.invariant.0 c.end_of-end.ensures
-
-pub returns-in_default : goal.returns-in_default
-returns-in_default c =
-    let l = c.loop-c in
-    let line = c.args.line.now in
-    let u = unread l.c c.args.shape.now in
-    let e = c.end_of-end in
-    let first = cut-first 32 line l.at e.result l.invariant.0 e.ensures in
-    let token = take (e.result - l.at) (drop l.at line) in
-    let left = some_left u c.is_read.ensures c.if-is_read.false in
-    let value = by_letter u token c.letter_of.result c.most_of.result Number.None c.letter_of.ensures c.most_of.ensures c.in_default.ensures in
+pub returns-in_err-x : goal.returns-in_err-x
+returns-in_err-x c =
+    let l = c.loop-letter in
+    let token = c.next_token.result.0.now in
+    let letter = c.in_ok-letter.letter in
+    let u = unread l.cursor in
+    let first = first_piece 32 l.rest.now token c.next_token.result.1 c.next_token.ensures.pieces in
+    let next = sym c.in_ok-letter.ensures in
+    let value = by_letter letter c.most_of.result token None c.most_of.ensures c.in_err-x.ensures in
     record {
       meaning =
-          sym (turn-none _ (take l.count l.numbers) u token first.0
-          (l.invariant.4 ∙ ap (λ (k : List (List ℕ)). after (take l.count l.numbers) (Shapes·fill u k)) first.1) left value);
-      result_in_bounds = omega arith;
-      numbers_after = sym (l.invariant.5 ∙ ap (filled l.count l.numbers u) first.1 ∙ filled_none l.count l.numbers u token first.0 left value);
+          ap (λ (n : Option ℕ). counted n l.numbers) c.from_residual-in_err-x.ensures
+          ∙ sym (turn-none _ (take l.count l.numbers) u token first.0
+          (l.invariant.whole ∙ ap (λ (t : List (List ℕ)). after (take l.count l.numbers) (fill u t)) first.1) letter next value);
+      result_in_bounds = omega (arith, ap held c.from_residual-in_err-x.ensures);
+      numbers_after =
+          sym (room-none _ l.count l.numbers u token first.0 (l.invariant.room ∙ ap (filled l.count l.numbers u) first.1) letter next value);
     }
 
 pub bounds-numbers-count : goal.bounds-numbers-count
 bounds-numbers-count c =
-    let l = c.loop-c in
-    let line = c.args.line.now in
-    let u = unread l.c c.args.shape.now in
-    let e = c.end_of-end in
-    let x = c.in-Value.x in
-    let value =
-    by_letter u (take (e.result - l.at) (drop l.at line)) c.letter_of.result c.most_of.result (Number.Value x) c.letter_of.ensures c.most_of.ensures
-    c.in-Value.ensures in
-    roomy line u l.at e.result x value l.count l.numbers (end-le 32 line l.at e.result l.invariant.0 e.ensures) (omega arith) l.invariant.1
+    let l = c.loop-letter in
+    roomy l.rest.now c.next_token.result.0.now c.most_of.result c.in_ok-x.x l.count (length c.args.line.now) (length l.numbers)
+    c.next_token.ensures.token_value c.in_ok-x.ensures l.invariant.few (omega (arith, l.invariant.wide))
 
-pub passed-c-requires-clause-x_bound : goal.passed-c-requires-clause-x_bound
-passed-c-requires-clause-x_bound c =
-    let l = c.loop-c in
-    let line = c.args.line.now in
-    let u = unread l.c c.args.shape.now in
-    let token = take (c.end_of-end.result - l.at) (drop l.at line) in
-    let x = c.in-Value.x in
-    numeral-most (most_of (get_or u 0 0)) token x
-    (by_letter u token c.letter_of.result c.most_of.result (Number.Value x) c.letter_of.ensures c.most_of.ensures c.in-Value.ensures)
+pub behind-cursor-requires-clause-x_bound : goal.behind-cursor-requires-clause-x_bound
+behind-cursor-requires-clause-x_bound c =
+    omega (arith, numeral-most c.most_of.result c.next_token.result.0.now c.in_ok-x.x (sym c.in_ok-x.ensures), c.most_of.ensures)
 
-pub returns-then-is_read-2 : goal.returns-then-is_read-2
-returns-then-is_read-2 c =
-    let l = c.loop-c in
-    let line = c.args.line.now in
-    let u = unread l.c c.args.shape.now in
-    let u' = unread c.passed-c.result c.args.shape.now in
-    let e = c.end_of-end in
-    let x = c.in-Value.x in
-    let left = some_left u c.is_read.ensures c.if-is_read.false in
-    let value =
-    by_letter u (take (e.result - l.at) (drop l.at line)) c.letter_of.result c.most_of.result (Number.Value x) c.letter_of.ensures c.most_of.ensures
-    c.in-Value.ensures in
+pub loop-letter-preserved : goal.loop-letter-preserved
+loop-letter-preserved c =
+    let l = c.loop-letter in
+    let t = c.next_token in
+    let token = t.result.0.now in
+    let letter = c.in_ok-letter.letter in
+    let x = c.in_ok-x.x in
+    let u' = unread c.behind-cursor.result in
+    let rest = c.in-Some.more in
+    let first = MatchOption-at_some _ _ rest c.in-Some.is t.ensures.pieces in
+    let shorter = MatchOption-at_some _ _ rest c.in-Some.is t.ensures.rest_value in
+    let value = by_letter letter c.most_of.result token (Some x) c.most_of.ensures c.in_ok-x.ensures in
     let room =
-    roomy line u l.at e.result x value l.count l.numbers (end-le 32 line l.at e.result l.invariant.0 e.ensures) (omega arith) l.invariant.1 in
-    let last = cut-end 32 line l.at e.result l.invariant.0 e.ensures c.if-end-line.true in
+    roomy l.rest.now token c.most_of.result x l.count (length c.args.line.now) (length l.numbers) t.ensures.token_value c.in_ok-x.ensures l.invariant.few
+    (omega (arith, l.invariant.wide)) in
+    record {
+      few = omega (arith, numeral-long c.most_of.result token x (sym c.in_ok-x.ensures), shorter.0, l.invariant.few);
+      wide = rw length-set l.invariant.wide;
+      whole =
+          more l.numbers (unread l.cursor) u' token l.rest.now l.count letter x (cut 32 rest.now) first (sym c.in_ok-letter.ensures) value
+          c.behind-cursor.ensures _ room l.invariant.whole;
+      room =
+          stored_more l.numbers (unread l.cursor) u' token l.rest.now l.count letter x (cut 32 rest.now) first (sym c.in_ok-letter.ensures) value
+          c.behind-cursor.ensures _ l.invariant.room;
+    }
+
+pub returns-then-is_none : goal.returns-then-is_none
+returns-then-is_none c =
+    let l = c.loop-letter in
+    let t = c.next_token in
+    let token = t.result.0.now in
+    let letter = c.in_ok-letter.letter in
+    let x = c.in_ok-x.x in
+    let u' = unread c.behind-cursor.result in
+    let first = MatchOption-at_none _ _ c.in-None.is t.ensures.pieces in
+    let value = by_letter letter c.most_of.result token (Some x) c.most_of.ensures c.in_ok-x.ensures in
+    let room =
+    roomy l.rest.now token c.most_of.result x l.count (length c.args.line.now) (length l.numbers) t.ensures.token_value c.in_ok-x.ensures l.invariant.few
+    (omega (arith, l.invariant.wide)) in
     let stored = take (l.count + 1) (set l.numbers l.count x) in
-    let read = none_left u' c.is_read-then-end-line.ensures c.if-is_read-2.true in
+    let left = ap is_some (sym c.letter-in-None.ensures) ∙ c.if-is_none.ensures in
     record {
       meaning =
-          sym (next line u l.at e.result x value l.count l.numbers u' [] left c.passed-c.ensures.unread_after last _ room l.invariant.4
-          ∙ ap (after stored) (fill_done u' read) ∙ ap some (append-nil stored));
+          sym (more l.numbers (unread l.cursor) u' token l.rest.now l.count letter x [] first (sym c.in_ok-letter.ensures) value c.behind-cursor.ensures _ room
+          l.invariant.whole ∙ ap (after stored) (fill_done u' left) ∙ ap Some (append-nil stored));
       result_in_bounds = rw length-set (omega (arith, room));
       numbers_after =
-          sym (stored_next line u l.at e.result x value l.count l.numbers u' [] left c.passed-c.ensures.unread_after last _ l.invariant.5
-          ∙ filled-end _ _ u');
+          sym (stored_more l.numbers (unread l.cursor) u' token l.rest.now l.count letter x [] first (sym c.in_ok-letter.ensures) value
+          c.behind-cursor.ensures _ l.invariant.room ∙ filled-end _ _ u');
     }
 
-pub returns-else-is_read-2 : goal.returns-else-is_read-2
-returns-else-is_read-2 c =
-    let l = c.loop-c in
-    let line = c.args.line.now in
-    let u = unread l.c c.args.shape.now in
-    let u' = unread c.passed-c.result c.args.shape.now in
-    let e = c.end_of-end in
-    let x = c.in-Value.x in
-    let left = some_left u c.is_read.ensures c.if-is_read.false in
-    let value =
-    by_letter u (take (e.result - l.at) (drop l.at line)) c.letter_of.result c.most_of.result (Number.Value x) c.letter_of.ensures c.most_of.ensures
-    c.in-Value.ensures in
+pub returns-else-is_none : goal.returns-else-is_none
+returns-else-is_none c =
+    let l = c.loop-letter in
+    let t = c.next_token in
+    let token = t.result.0.now in
+    let letter = c.in_ok-letter.letter in
+    let x = c.in_ok-x.x in
+    let u' = unread c.behind-cursor.result in
+    let first = MatchOption-at_none _ _ c.in-None.is t.ensures.pieces in
+    let value = by_letter letter c.most_of.result token (Some x) c.most_of.ensures c.in_ok-x.ensures in
     let room =
-    roomy line u l.at e.result x value l.count l.numbers (end-le 32 line l.at e.result l.invariant.0 e.ensures) (omega arith) l.invariant.1 in
-    let last = cut-end 32 line l.at e.result l.invariant.0 e.ensures c.if-end-line.true in
+    roomy l.rest.now token c.most_of.result x l.count (length c.args.line.now) (length l.numbers) t.ensures.token_value c.in_ok-x.ensures l.invariant.few
+    (omega (arith, l.invariant.wide)) in
     let stored = take (l.count + 1) (set l.numbers l.count x) in
-    let short = some_left u' c.is_read-then-end-line.ensures c.if-is_read-2.false in
+    let left = ap is_some (sym c.letter-in-None.ensures) ∙ c.if-is_none.ensures in
     record {
       meaning =
-          sym (next line u l.at e.result x value l.count l.numbers u' [] left c.passed-c.ensures.unread_after last _ room l.invariant.4
-          ∙ ap (after stored) (fill-short u' short));
+          sym (more l.numbers (unread l.cursor) u' token l.rest.now l.count letter x [] first (sym c.in_ok-letter.ensures) value c.behind-cursor.ensures _ room
+          l.invariant.whole ∙ ap (after stored) (fill-short u' left));
       result_in_bounds = omega arith;
       numbers_after =
-          sym (stored_next line u l.at e.result x value l.count l.numbers u' [] left c.passed-c.ensures.unread_after last _ l.invariant.5
-          ∙ filled-end _ _ u');
+          sym (stored_more l.numbers (unread l.cursor) u' token l.rest.now l.count letter x [] first (sym c.in_ok-letter.ensures) value
+          c.behind-cursor.ensures _ l.invariant.room ∙ filled-end _ _ u');
     }
-
-pub loop-c-preserved : goal.loop-c-preserved
-loop-c-preserved c =
-    let l = c.loop-c in
-    let line = c.args.line.now in
-    let u = unread l.c c.args.shape.now in
-    let u' = unread c.passed-c.result c.args.shape.now in
-    let e = c.end_of-end in
-    let x = c.in-Value.x in
-    let left = some_left u c.is_read.ensures c.if-is_read.false in
-    let value =
-    by_letter u (take (e.result - l.at) (drop l.at line)) c.letter_of.result c.most_of.result (Number.Value x) c.letter_of.ensures c.most_of.ensures
-    c.in-Value.ensures in
-    let inside = end-le 32 line l.at e.result l.invariant.0 e.ensures in
-    let room = roomy line u l.at e.result x value l.count l.numbers inside (omega arith) l.invariant.1 in
-    let ts = cut 32 (drop (e.result + 1) line) in
-    let following = cut_at 32 line l.at e.result l.invariant.0 e.ensures (omega (arith, inside, c.if-end-line.false)) in (
-      omega (arith, inside, c.if-end-line.false),
-      omega (arith, long line u l.at e.result x value, l.invariant),
-      c.passed-c.ensures.at_after_in_bounds,
-      rw length-set l.invariant.3,
-      next line u l.at e.result x value l.count l.numbers u' ts left c.passed-c.ensures.unread_after following _ room l.invariant.4,
-      stored_next line u l.at e.result x value l.count l.numbers u' ts left c.passed-c.ensures.unread_after following _ l.invariant.5,
-    )
