@@ -47,6 +47,7 @@ pub fn say(out: &mut [u8], at: usize, labels: &[u8], t: Numbers) -> usize
 {
     let values = [u64::from(t.number), t.a, t.b, t.c];
     let end = 1 + (t.count as usize).min(3);
+    // The kinds as C reads them: 0 an answer, 1 "more than the cap".
     match t.kind {
         0 => say_labels(out, at, labels, &values[1..end]),
         1 => say_labels(out, at, b"more tried | radius ", &values[1..end]),

@@ -1,22 +1,11 @@
--- Tables as they are handed in, as one record: what building tells and makes of them, by document 02's definitions, which take their fields one by one.
--- Beside it what the code judged of them before it hands them on, of which only private functions' contracts speak.
+-- Tables as they are handed in, as one record: what the code judged of them before it hands them on. Only private functions' contracts speak of it.
 use Rattle.std.specs.Prelude.{List, ℕ, length}
 use Rattle.paper.specs.Promised.{Fits}
 use Rattle.paper.specs.Refusals.{Told}
 use Rattle.paper.specs.Sheet.{sheet}
-use Rattle.paper.specs.Tables.{Tables, built, builds_sized, builds}
+use Rattle.paper.specs.Tables.{Tables, builds_sized}
 use Rattle.sheet.specs.Sound.{Shaped}
 use Rattle.blocks.specs.Counts.{Counted}
-
--- the rows of the whole sheet
-abbrev pub built_of : Tables → List ℕ
-built_of t = built t.n t.k t.l t.P t.R t.Q
-
--- what building tells, a room being lent
-abbrev pub builds_of : Tables → List ℕ → Told
-builds_of t room = builds t.n t.k t.l t.P t.R t.Q room
-
--- ---- in between
 
 -- the sizes are right, those of the room too: 1 was passed
 abbrev pub Sized : List ℕ → Tables → Type 0

@@ -4,8 +4,9 @@
 
 ghost use Rattle.std.specs.Prelude.{◌≡◌, ◌+◌, ◌^◌, ◌≤◌, ◌<◌, length, get_or};
 ghost use Rattle.paper.specs.Refusals.{outcome, leaves};
+ghost use Rattle.paper.specs.Tables.{built_of, builds_of};
 ghost use Rattle.paper.specs.Words.{width};
-ghost use Rattle.building.specs.Handed.{built_of, builds_of, Sized, Fit, builds_sized_of};
+ghost use Rattle.building.specs.Handed.{Sized, Fit, builds_sized_of};
 ghost use Rattle.building.specs.Rows.{row_g1, row_g0, row_h, row_m};
 
 use blocks::{is_tabled, join};
@@ -60,7 +61,7 @@ fn m_row(tables: &Tables, i: u32) -> Word
     join(tables.k, tables.l, unit, products_of(tables.r, unit), 0)
 }
 
-// Row i of the sheet, by the part that it is of.
+// Row i of the sheet, by the part that it is of: the one place that says where each part begins.
 fn row_at(tables: &Tables, i: u32) -> Word
     requires { Fit tables.now × (i < tables.now.n + tables.now.k) }
     ensures { result ≡ get_or (built_of tables.now) i 0 }

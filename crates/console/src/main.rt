@@ -108,7 +108,7 @@ fn room_for_line() -> [u8; ROOM_LINE + 2]
     [0; ROOM_LINE + 2]
 }
 
-// Room for the numbers of a line: each takes two bytes of it.
+// Room for the numbers of a line: each takes two bytes of it. A function for each room says its length by the definition that contracts name, which a const parameter cannot.
 fn room_for_numbers() -> [Word; ROOM_NUMBERS]
     ensures { room_numbers ≡ length result }
 {

@@ -46,6 +46,7 @@ fn keep_rows(rows: &[Word], mask: Word) -> [Reduced; ROOM]
     requires { length rows.now ≤ width }
     ensures { take (length rows.now) result ≡ kept_rows (masked mask rows.now) }
 {
+    // A room for as many rows as there can be, since there is no heap; the rows kept so far are lent while the next is found.
     let mut kept = [Reduced { rest: 0, choice: 0 }; ROOM];
     for (j, row) in rows.iter().enumerate() {
         let r = reduce(&kept[..j], *row & mask);

@@ -41,7 +41,7 @@ fn put_d0(out: &mut [u8], at: usize, sheet: &Sheet) -> usize
     }
 }
 
-// "d1 3 tried 29"
+// "d1 3 tried 29". The two measurements answer with two types, so that there is a function for each.
 fn put_d1(out: &mut [u8], at: usize, sheet: &Sheet) -> usize
     requires { at + 60 ≤ length out.old }
     ensures { result ≤ at + 60 }

@@ -26,6 +26,7 @@ fn find<'a>(table: &'a [u8], name: &[u8]) -> Option<(usize, &'a [u8])>
     ensures { found result ≡ lookup name.now 0 (cut 32 table.now) }
 {
     let mut rest = table;
+    // The number is the answer, and is counted with the entries: an iterator of entries would be a type of its own.
     let mut v = 0;
     loop {
         let (entry, behind) = next_token(rest, b' ');
@@ -84,7 +85,7 @@ fn trimmed(line: &[u8]) -> &[u8]
     }
 }
 
-// What a line asks for. Its numbers are left in the lent room.
+// What a line asks for. Its numbers are left in the lent room, which has a place for each two bytes of a line, here and wherever a line is handed on.
 pub fn parse(line: &[u8], table: &[u8], numbers: &mut [Word]) -> Line
     requires { room_line ≤ 2 * length numbers.old }
     ensures meaning { meant result numbers.new ≡ asked table.now line.now }

@@ -56,7 +56,7 @@ fn item_of(wide: bool, left: u64) -> u8
     b'n'
 }
 
-// Where a shape is read: `left` items of a list are to come, words or the numbers of records, and then the letters.
+// Where a shape is read: `left` items of a list are to come, words or the numbers of records, and then the letters. A bool says which of the two; an enum would be turned into one of two letters at the same single place, `item_of`.
 #[derive(Clone, Copy)]
 struct Cursor<'a> {
     left: u64,
@@ -103,6 +103,7 @@ pub fn fill(line: &[u8], shape: &[u8], numbers: &mut [Word]) -> Option<usize>
     ensures numbers_after { numbers.new ≡ filled 0 numbers.old shape.now (cut 32 line.now) }
 {
     let mut rest = line;
+    // The count is the answer: how many of the lent room's numbers are the line's.
     let mut count = 0;
     let mut cursor = Cursor {
         left: 0,

@@ -23,7 +23,8 @@ fn is_clear(rows: &[Word], x: Word) -> bool
     rows.iter().all(|row| product_of(*row, x) == 0)
 }
 
-// The one test of a listed word z: y + z has product 0 with each row of `clear`, and product 1 with some row of `stirred`, where it has rows.
+// The one test of a listed word z: y + z has product 0 with each row of `clear`, and product 1 with some row of `stirred`, where it has rows. The three go on unchanged through
+// the search, as parameters: a struct of them would be taken apart at every word.
 fn is_hit(clear: &[Word], stirred: &[Word], y: Word, z: Word) -> bool
     ensures { result ≡ passes clear.now stirred.now y z }
 {

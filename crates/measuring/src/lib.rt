@@ -12,7 +12,7 @@ use paper::{MOST_CAP, MeasuredD0, MeasuredD1, Refusal, Word};
 use sheet::Admitted;
 use words::weight_of;
 
-// 11: a cap of 1 to 8.
+// 11: a cap of 1 to 8. (`is_number` of opening is the same of a plate number, by another definition.)
 fn is_cap(cap: u32) -> bool
     ensures { result ≡ capped cap }
 {
@@ -52,7 +52,7 @@ pub fn measure_d0(sheet: &Admitted, cap: u32) -> MeasuredD0
     }
 }
 
-// The same of d1, with "the radius to print on the plate".
+// The same of d1, with "the radius to print on the plate". It differs from that of d0 in the search, in what is answered and in its type, so that one function for both would be handed all three; and so it is with `find_masked` and `find_hidden`, and with the calls above.
 pub fn measure_d1(sheet: &Admitted, cap: u32) -> MeasuredD1
     ensures { measured_d1 result ≡ measures_admitted_d1 sheet.now cap }
 {

@@ -29,6 +29,7 @@ pub fn put(
         Ok(g) => g,
         Err(place) => return Written::Refused(Refusal::Record { place }),
     };
+    // The answer is given on case by case, so that the room and what is told are seen in one place.
     match writing::write(sheet, message, g.mask, g.levels) {
         Written::Word { word, d } => {
             page[slot] = word;
@@ -61,6 +62,8 @@ fn write_gathered(
     }
     put(&admitted, page, g, at, message)
 }
+
+// A page is lent to a write to be changed and to a read as it is, so that sheet, number and page are handed in one by one.
 
 // Writes a message to one slot of a page, around the stuck cells that the records name: refusals 1 to 6, 16, 13, 14, 15, then 7 and 9.
 pub fn page_write(

@@ -42,6 +42,7 @@ fn write_page(ns: &[Word], page: &mut [Word]) -> Numbers
     ensures result_value { tells result ≡ page_written ns.now }
     ensures page_after { page.new ≡ page_after_write (page_written ns.now) page.old (at ns.now (records_end ns.now)) }
 {
+    // The places are summed up here, as in `wholeverbs`: out of `Stands` of this shape the check finds each, and a struct of them would carry six facts.
     let rows = 4 + ns[3] as usize;
     let end = rows + 1 + 1 + ns[rows + 1] as usize;
     let count = ns[end] as usize;

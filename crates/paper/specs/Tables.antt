@@ -103,6 +103,14 @@ unfoldable pub builds : ℕ → ℕ → ℕ → List ℕ → List ℕ → List �
 unfolding builds_sized
 builds n k l P R Q room = unless (shaped (sheet n k l room) && tabled k l (length P) (length R) (length Q)) 1 (builds_sized n k l P R Q)
 
+-- the sheet of the tables that a call is handed
+abbrev pub built_of : Tables → List ℕ
+built_of t = built t.n t.k t.l t.P t.R t.Q
+
+-- and what building it answers, a room being lent
+abbrev pub builds_of : Tables → List ℕ → Told
+builds_of t room = builds t.n t.k t.l t.P t.R t.Q room
+
 -- ---- "an admitted sheet whose G1 and G0 have that shape gives its tables back"
 
 -- the cells of x from `from` on, `count` of them

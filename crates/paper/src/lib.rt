@@ -99,6 +99,8 @@ pub enum Refusal {
     Lengths,
 }
 
+// The seven answers are enums with a case Refused, and no Results: the scope names that form for "the refusal carries its reason and the reason carries its row".
+
 // What admitting a sheet answers.
 #[derive(Clone, Copy)]
 pub enum Admission {
@@ -147,7 +149,7 @@ pub enum Opening {
     Refused(Refusal),
 }
 
-// What a call answers whose answer stands in the rooms that it was lent: that it is done.
+// What a call answers whose answer stands in the rooms that it was lent: that it is done. (An admission is another call's answer, with a name of its own.)
 #[derive(Clone, Copy)]
 pub enum Outcome {
     Done,

@@ -14,7 +14,7 @@ use paper::{Refusal, Sheet, WIDTH, Word};
 use std::marker::Model;
 use words::{is_low, product_of};
 
-// The rows from `from` on, `count` of them: one of the sheet's four parts.
+// The rows from `from` on, `count` of them: one of the sheet's four parts. The two are no range, here and for cells in `blocks` and `tables`, since the definitions take them so.
 pub fn part(rows: &[Word], from: u32, count: u32) -> &[Word]
     requires { from + count ≤ length rows.now }
     ensures { result.now ≡ take count (drop from rows.now) }
@@ -108,7 +108,7 @@ fn judge_rows(sheet: &Sheet) -> Result<(), Refusal>
     judge_sums(sheet)
 }
 
-// A sheet that was admitted: its value is the sheet, and each fact of `Sound` holds of it.
+// A sheet that was admitted: its value is the sheet, and each fact of `Sound` holds of it. Its fields are a sheet's own, so that a job reads `sheet.n`.
 #[derive(Drop)]
 pub struct Admitted<'a> {
     pub n: u32,

@@ -33,7 +33,7 @@ fn read_some<R: Read>(from: &mut R, input: &mut [u8]) -> std::io::Result<usize>
     from.read(input)
 }
 
-// A piece of the input: how many bytes of the room it has, and whether it is the last.
+// A piece of the input: how many bytes of the room it has, and whether it is the last. No enum of the two: each case would have the count.
 #[derive(Clone, Copy)]
 pub struct Piece {
     pub count: usize,
@@ -71,7 +71,7 @@ pub fn read_piece<R: Read, W: Write>(
     }
 }
 
-// Writes the first bytes of a text, and says how many.
+// Writes the first bytes of a text, and says how many. The loop is that of `read_some`: with the call as a closure both contracts would be the closure's, and neither function shorter.
 fn write_some<W: Write>(to: &mut W, bytes: &[u8]) -> std::io::Result<usize>
     ensures bound { WritesAtMost result bytes.now }
     ensures bytes { WriteAppends (W.contents to.old) (W.contents to.new) result bytes.now }

@@ -39,7 +39,7 @@ fn put_cells(from: u32, count: u32, rows: &[Word], room: &mut [Word])
     }
 }
 
-// The tables of an admitted sheet: 24, or the tables in the rooms. G1 is [I 0 P] if its first k + l cells are [I 0], and G0 is [R I Q] if the next l after k are I.
+// The tables of an admitted sheet: 24, or the tables in the rooms, which are three that the caller lends one by one. G1 is [I 0 P] if its first k + l cells are [I 0], and G0 is [R I Q] if the next l after k are I.
 fn give(sheet: &Admitted, p: &mut [Word], r: &mut [Word], q: &mut [Word]) -> Outcome
     requires { Counted sheet.now.k sheet.now.l (length p.old) (length r.old) (length q.old) }
     ensures result_value { outcome result ≡ gives_admitted sheet.now }

@@ -2,12 +2,11 @@
 use Rattle.std.specs.Prelude.{List, ◌++◌, ℕ, ◌+◌, length}
 use Rattle.paper.specs.Refusals.{Told, leaves}
 use Rattle.paper.specs.Sheet.{Sheet}
-use Rattle.paper.specs.Tables.{Tables, tables, table_p, table_r, table_q, gives}
+use Rattle.paper.specs.Tables.{Tables, tables, built_of, builds_of, table_p, table_r, table_q, gives}
 use Rattle.text.specs.Bytes.{bytes}
 use Rattle.lines.specs.Arguments.{at, part, sheet_in, behind}
 use Rattle.answers.specs.Answers.{spoken, listed}
 use Rattle.rooms.specs.Lent.{room_at}
-use Rattle.building.specs.Handed.{built_of, builds_of}
 
 -- ---- `tosheet n k l LIST LIST LIST ROOM`
 

@@ -42,6 +42,7 @@ pub struct Step<'a> {
 
 // Takes the bytes up to the next newline, and answers the line that it ends. More than a call may have is enough of a line to answer it, so
 // that no more is held than the room has.
+// The rooms are lent apart and are of any size that `Rooms` asks, here and in the console: a struct of them would be of one size, or hide what `Left` says of each.
 pub fn take_step<'a>(
     input: &'a [u8],
     line: &mut [u8],

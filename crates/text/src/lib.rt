@@ -23,7 +23,7 @@ pub fn next_token(bytes: &[u8], stop: u8) -> (&[u8], Option<&[u8]>)
     (token, rest.get(1..))
 }
 
-// Reads a token: one or more digits, of any length, whose value is no more than `most`. A value that 64 bits do not hold is more.
+// Reads a token: one or more digits, of any length, whose value is no more than `most`. A value that 64 bits do not hold is more. (std's `parse` takes a plus sign too, and wants a `str`.)
 #[tactic(auto, using(crate::proofs::Numerals::turns))]
 pub fn parse_number(token: &[u8], most: u64) -> Option<u64>
     ensures { result ≡ numeral most token.now }
@@ -42,7 +42,8 @@ pub fn parse_number(token: &[u8], most: u64) -> Option<u64>
     if value <= most { Some(value) } else { None }
 }
 
-// Puts bytes behind the first `used` of a room, as far as it goes: what does not fit is passed over.
+// Puts bytes behind the first `used` of a room, as far as it goes: what does not fit is passed over. Room and place are apart, here and above, and no struct of both:
+// `room_unchanged`, `Put` and talk's `Left` say what lies behind the text too, which a private room would hide.
 #[tactic(auto, using(crate::proofs::Tokens::written_over, crate::proofs::Tokens::kept_over))]
 pub fn append(room: &mut [u8], used: usize, bytes: &[u8]) -> usize
     requires { used ≤ length room.old }

@@ -8,15 +8,15 @@ ghost use Rattle.told.specs.Telling.{told_by, tells};
 use paper::{Admission, MeasuredD0, MeasuredD1, Opening, Outcome, Reading, Refusal, Written};
 
 // The kind of an answer.
-pub const ANSWER: u32 = 0;
+const ANSWER: u32 = 0;
 
 // The kind of "more than the cap".
-pub const MORE: u32 = 1;
+const MORE: u32 = 1;
 
 // The kind of a refusal.
-pub const REFUSAL: u32 = 2;
+const REFUSAL: u32 = 2;
 
-// The kind, a refusal's number, and the first `count` of a, b and c.
+// The kind, a refusal's number, and the first `count` of a, b and c. Kinds, refusals and the count are numbers here, since C reads them.
 #[repr(C)]
 #[derive(Clone, Copy)]
 pub struct Numbers {
@@ -46,7 +46,7 @@ fn telling(kind: u32, number: u32, values: &[u64]) -> Numbers
     }
 }
 
-// An answer's values, of which there are three at most.
+// An answer's values, of which there are three at most. It and the two below are `telling` of one kind each, since each contract names another case of what is told.
 fn answering(values: &[u64]) -> Numbers
     ensures { tells result ≡ answer (take 3 values.now) }
 {

@@ -78,7 +78,7 @@ fn open_page(ns: &[Word]) -> Numbers
     Numbers::from(opening::open_page(&sheet_of(ns)))
 }
 
-// Puts the text of the answer to a verb's call.
+// Puts the text of the answer to a verb's call. A verb is its number in the table, which `lines` reads without knowing verbs: an enum of them would say the table once more, and a table of functions be one of function pointers.
 #[tactic(auto, unfolding(text::specs::Tokens::cut))]
 pub fn reply(verb: usize, ns: &[Word], out: &mut [u8]) -> usize
     requires stands { Stands (shape_at (cut 32 table) verb) 0 ns.now }

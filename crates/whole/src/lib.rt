@@ -64,6 +64,7 @@ fn write_run(
 {
     let gathered = gather_run(records, sheet.n, base as u32);
     let end = page.len().min(base + RUN);
+    // By index: `put` takes the whole page and the slot's number, by which the other lists go too.
     for i in base..end {
         notes[i] = note_of(put(sheet, page, gathered[i - base], i, messages[i]));
     }

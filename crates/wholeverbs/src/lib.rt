@@ -17,6 +17,8 @@ use rooms::{ROOM_SLOTS, copy_page, copy_records, list_at, room_at, room_of, shee
 use told::Numbers;
 use whole::page_write_all;
 
+// The three functions below ask for the same shape of the line and for what was copied of it, each of its own room, and no type: a clause says what the caller lends.
+
 // Writes the lent copy of the line's page, and the notes. Of a page or of records that are too many, one more than there may be are enough to tell it.
 fn write_whole(ns: &[Word], page: &mut [Word], notes: &mut [Word]) -> Numbers
     requires stands { Stands (bytes "nnnLnLRLmw") 0 ns.now }

@@ -13,7 +13,7 @@ use paper::{WIDTH, Word};
 pub const ALL_CELLS: Word = u64::MAX;
 
 // "The product of two words is the parity of the cells that are 1 in both": the parity of a count of ones, which the compiler
-// takes by one fold and the processor's own parity flag.
+// takes by the processor's own count.
 pub fn product_of(a: Word, b: Word) -> Word
     ensures { result ≡ product a b }
 {
@@ -27,7 +27,8 @@ pub fn weight_of(x: Word) -> u32
     u64::count_ones(x)
 }
 
-// The products of x with each row, bit i for row i: of M's rows, the message of x.
+// The products of x with each row, bit i for row i: of M's rows, the message of x. That rows are no more than a word has cells is asked in a clause, here and in six
+// functions above, and is no type: each loop over rows would take the type apart.
 pub fn products_of(rows: &[Word], x: Word) -> Word
     requires { length rows.now ≤ width }
     ensures { result ≡ products rows.now x }
@@ -63,7 +64,7 @@ pub fn lowest_of(x: Word) -> Option<u32>
     }
 }
 
-// Whether x is a word over n cells. The shift by n - 1 is below the width also where n is the width; over no cells 0 is the only word.
+// Whether x is a word over n cells, of which a word has so many: a clause, here and above, and no type, since n comes as it is handed in. The shift by n - 1 is below the width also where n is the width; over no cells 0 is the only word.
 pub fn is_low(n: u32, x: Word) -> bool
     requires { n ≤ width }
     ensures { result ≡ ltb x (2 ^ n) }

@@ -44,7 +44,7 @@ fn choose_word(sheet: &Admitted, message: Word, stuck: Word, levels: Word) -> Wr
     }
 }
 
-// 7, then 8, then the word.
+// 7, then 8, then the word. Stuck cells and levels are two words, as they are handed in.
 pub fn write(sheet: &Admitted, message: Word, stuck: Word, levels: Word) -> Written
     ensures { written result ≡ writes_admitted sheet.now message stuck levels }
 {

@@ -2,10 +2,10 @@
 use mathlib.Core.Path.{◌≡◌, refl, sym, ap, ap₂, ◌∙◌}
 use mathlib.Core.Bool.{◌&&◌}
 use Rattle.paper.specs.Refusals.{Told, leaves}
-use Rattle.paper.specs.Tables.{builds}
+use Rattle.paper.specs.Tables.{builds, built_of, builds_of}
 use Rattle.rules.proofs.Rooms.{room-left}
 use Rattle.rules.proofs.Rules.{unless-stop, unless-pass}
-use Rattle.building.specs.Handed.{built_of, builds_of, builds_sized_of}
+use Rattle.building.specs.Handed.{builds_sized_of}
 use Rattle.building.proofs.build.Goals as goal
 
 pub returns-then-not-is_shaped : goal.returns-then-not-is_shaped

@@ -1,7 +1,7 @@
 -- `fill` meets its contract: after i turns the room begins with the sheet's first i rows.
 use mathlib.Core.Path.{◌≡◌}
 use lib.ListN.{take}
-use Rattle.building.specs.Handed.{built_of}
+use Rattle.paper.specs.Tables.{built_of}
 use Rattle.building.proofs.fill.Given as goal
 
 abbrev pub invariant-loop-i : goal.invariant-loop-i
