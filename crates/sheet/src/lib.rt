@@ -89,7 +89,7 @@ fn judge_sums(sheet: &Sheet) -> Result<(), Refusal>
     Ok(())
 }
 
-// Rules 2 to 4, each "tried on all rows before the next rule".
+// Rules 2 to 4, each "tried on all rows before the next rule", and then the sums.
 fn judge_rows(sheet: &Sheet) -> Result<(), Refusal>
     requires { Shaped sheet.now }
     ensures { verdict result ≡ judged_rows sheet.now (answer []) }

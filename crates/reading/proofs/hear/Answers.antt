@@ -5,7 +5,7 @@ use Prim.Native.Nat.{ℕ}
 use Rattle.paper.specs.Reading.{heard}
 use Rattle.paper.specs.Refusals.{answer}
 use Rattle.paper.specs.Words.{products, ◌⊕◌}
-use Rattle.listing.proofs.Tests.{searched-found, searched-missed}
+use Rattle.listing.proofs.Tests.{searched-found}
 use Rattle.reading.proofs.hear.Goals as goal
 
 pub returns-in-Some : goal.returns-in-Some
@@ -16,8 +16,3 @@ returns-in-Some c =
     let z = c.in-Some.z in
     ap (λ (m : ℕ). answer (m ∷ z ∷ f.tried ∷ [])) (c.products_of.ensures ∙ ap (λ (g : List ℕ). products g (a.y ⊕ z)) c.m-m.ensures.rows)
     ∙ ap (heard a.sheet.now a.y) (sym (searched-found f c.in-Some.is) ∙ c.find_nearest-z.ensures)
-
-pub returns-in-None : goal.returns-in-None
-returns-in-None c =
-    let a = c.args in
-    ap (heard a.sheet.now a.y) (sym (searched-missed c.find_nearest-z.result c.in-None.is) ∙ c.find_nearest-z.ensures)

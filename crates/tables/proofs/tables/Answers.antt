@@ -8,7 +8,6 @@ use Rattle.paper.specs.Tables.{table_p, table_r, table_q, tabled, gives_admitted
 use Rattle.rules.proofs.Rooms.{room-left}
 use Rattle.rules.proofs.Rules.{unless-stop, unless-pass}
 use Rattle.sheet.proofs.Calls.{call-refused, call-answer}
-use Rattle.blocks.proofs.Counts.{counted}
 use Rattle.tables.proofs.tables.Goals as goal
 
 -- the code's test of the rooms, by the fields of the sheet that was lent, is the definition's
@@ -28,11 +27,6 @@ returns-in-Err c =
     let e = unless-pass 1 (judged s (gives_admitted s)) (sym (tested _ _ _ c.sheet.view_is c.is_tabled.ensures) ∙ c.if-not-is_tabled.false)
     (call-refused s c.admit.ensures.told (gives_admitted s) c.in-Err.is) in
     record { result_value = e; p_after = room-left _ _ e; r_after = room-left _ _ e; q_after = room-left _ _ e }
-
--- the rooms are right for the sheet that was admitted, which is the one that was lent
-pub give-requires : goal.give-requires
-give-requires c =
-    counted _ _ _ _ _ (sym (tested _ _ _ (c.sheet.view_is ∙ sym c.in-Ok.ensures.same) c.is_tabled.ensures) ∙ c.if-not-is_tabled.false)
 
 pub returns-in-Ok : goal.returns-in-Ok
 unfolding gives
