@@ -12,9 +12,8 @@ ghost use Rattle.rooms.specs.Lent.{room_slots, records_end, page_in};
 ghost use Rattle.pageverbs.specs.Pages.{page_written, pwrite_text, page_reading};
 
 use answers::{say, say_list};
-use held::ROOM_RECORDS;
 use paper::{MOST_SLOTS, Word};
-use rooms::{ROOM_SLOTS, copy_page, copy_records, sheet_of};
+use rooms::{ROOM_RECORDS, ROOM_SLOTS, copy_page, copy_records, sheet_of};
 use told::Numbers;
 
 // `pread SHEET number LIST slot radius`.

@@ -1,10 +1,14 @@
-// The stuck cells of one slot, from the list of records that a page comes with: one thin function scans the lent slice, and gathers the slot's mask and levels.
+// The stuck cells of one slot, from the list of records that a page comes with: one thin function scans the lent slice, and gathers the slot's mask and levels. `run` does so for
+// a run of slots, by the same step.
 #![tactic(auto)]
 
 ghost use Rattle.std.specs.Prelude.{◌≡◌, ◌+◌, ◌<◌, ◌^◌};
 ghost use Rattle.records.specs.Gather.{gather_of, spoils, step_of};
 
+mod run;
+
 use paper::{StuckCell, WIDTH, Word};
+pub use run::{RUN, gather_run};
 use words::cell_of;
 
 // What one slot's records gather to so far: how many there are, the stuck cells and their levels.

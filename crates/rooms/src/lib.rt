@@ -7,12 +7,14 @@ ghost use Rattle.lines.specs.Arguments.{at as Arguments·at};
 ghost use Rattle.lines.specs.Shapes.{Records, most_room};
 ghost use Rattle.rooms.specs.Lent.{room_slots, room_records, records_from};
 
-use held::ROOM_RECORDS;
 use lines::MOST_ROOM;
-use paper::{MOST_SLOTS, Sheet, StuckCell, Word};
+use paper::{MOST_RECORDS, MOST_SLOTS, Sheet, StuckCell, Word};
 
 // The room for a page: one slot more than a page may have.
 pub const ROOM_SLOTS: usize = MOST_SLOTS + 1;
+
+// The room for its records: one more than a page may have, so that too many are still refused.
+pub const ROOM_RECORDS: usize = MOST_RECORDS + 1;
 
 // The words from a place on, in a room.
 pub fn copy_page(ns: &[Word], from: usize, count: usize) -> [Word; ROOM_SLOTS]

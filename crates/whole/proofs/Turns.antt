@@ -1,21 +1,19 @@
 -- Page and notes after the writes of the slots below i, slot after slot, by what was gathered for a run of slots. For the loops over a run and over runs. Assumes nothing.
-use mathlib.Core.Path.{◌≡◌, sym, ap, ap₂, ◌∙◌}
+use mathlib.Core.Path.{◌≡◌, sym, ap₂, ◌∙◌}
 use mathlib.Core.List.{List}
 use Prim.Native.Nat.{ℕ, ◌+◌, ◌-◌, ◌≤◌, ◌<◌}
 use native.Mathlib.Numerals.{add-one}
-use native.Mathlib.Omega.{arith}
 use lib.ListN.{get_or, set}
 use Rattle.paper.specs.Page.{page_after_write}
 use Rattle.paper.specs.WholePage.{note}
 use Rattle.paper.specs.Refusals.{Told}
 use Rattle.paper.specs.Sheet.{Sheet}
-use Rattle.paper.specs.declared.StuckCell.{StuckCell}
 use Rattle.std.proofs.Common.{Result, Ok}
-use Rattle.records.specs.Gather.{gather_of, nothing}
+use Rattle.records.specs.Gather.{nothing}
 use Rattle.records.specs.declared.Gathered.{Gathered}
-use Rattle.held.specs.Runs.{run}
+use Rattle.records.specs.Runs.{run}
 use Rattle.page.specs.Steps.{puts_admitted}
-use Rattle.whole.specs.Slots.{slot_told, page_of, notes_of}
+use Rattle.whole.specs.Slots.{page_of, notes_of}
 
 -- ---- one slot more
 
@@ -50,10 +48,3 @@ module _ (s : Sheet) (gathered : List (Result Gathered ℕ)) (messages : List �
   pub notes-turn : (before notes : List ℕ) (i : ℕ) → base ≤ i → i < base + run → Goes notes_of before notes i → Goes notes_of before (set notes i (note (run_told i))) (i + 1)
   notes-turn before notes i b l goes told tells start e =
       ap₂ (λ (t : Told) (p : List ℕ). set p i (note t)) (tells i b l) (goes told tells start e) ∙ sym (notes-next told start i)
-
--- what was gathered for a run is what each of its slots gathers to
-pub run-tells : (s : Sheet) (gathered : List (Result Gathered ℕ)) (records : List StuckCell) (messages : List ℕ) (base : ℕ)
-    → ((j : ℕ) → j < run → get_or gathered j (Ok nothing) ≡ gather_of (base + j) s.n records) → Tells s gathered messages base (slot_told s records messages)
-run-tells s gathered records messages base so i b l =
-    ap (λ (g : Result Gathered ℕ). puts_admitted s g (get_or messages i 0))
-    (so (i - base) (omega arith) ∙ ap (λ (m : ℕ). gather_of m s.n records) (let e : base + (i - base) ≡ i = omega arith in e))

@@ -7,13 +7,13 @@ ghost use Rattle.std.specs.Prelude.{◌&&◌, List, [], ◌≡◌, ℕ, ◌+◌,
 ghost use Rattle.paper.specs.Page.{most_slots, most_records, paged};
 ghost use Rattle.paper.specs.WholePage.{whole_writes, whole_page, whole_notes, note};
 ghost use Rattle.paper.specs.Refusals.{answer, verdict, outcome, written, unless};
-ghost use Rattle.held.specs.Runs.{run};
+ghost use Rattle.records.specs.Runs.{run};
 ghost use Rattle.whole.specs.Slots.{slot_told, page_of, notes_of, Writable};
 
-use held::{RUN, gather_run};
 use opening::{admit, are_few};
 use page::put;
 use paper::{Outcome, Refusal, Sheet, StuckCell, Word, Written};
+use records::{RUN, gather_run};
 use sheet::Admitted;
 use told::number_of;
 

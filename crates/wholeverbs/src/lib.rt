@@ -11,9 +11,10 @@ ghost use Rattle.rooms.specs.Lent.{room_slots, page_in};
 ghost use Rattle.wholeverbs.specs.Wholes.{notes_in, whole_written, page_left, notes_left, whole_text, wpage_text};
 
 use answers::{say, say_list};
-use held::ROOM_RECORDS;
 use paper::{MOST_SLOTS, Word};
-use rooms::{ROOM_SLOTS, copy_page, copy_records, list_at, room_at, room_of, sheet_of};
+use rooms::{
+    ROOM_RECORDS, ROOM_SLOTS, copy_page, copy_records, list_at, room_at, room_of, sheet_of,
+};
 use told::Numbers;
 use whole::page_write_all;
 

@@ -3,7 +3,7 @@ use mathlib.Core.Path.{ap, ◌∙◌}
 use Prim.Native.Nat.{◌+◌, ◌<◌}
 use native.Mathlib.Omega.{arith}
 use lib.ListN.{length, length-set}
-use Rattle.held.specs.Runs.{run}
+use Rattle.records.specs.Runs.{run}
 use Rattle.rules.proofs.Rooms.{length-kept}
 use Rattle.whole.proofs.Turns.{run_told, page-turn, notes-turn}
 use Rattle.whole.proofs.write_run.Goals as goal

@@ -6,10 +6,10 @@ use lib.ListN.{length, get_or-replicate, length-set}
 use Rattle.std.proofs.Common.{Ok}
 use Rattle.records.specs.Gather.{nothing}
 use Rattle.records.proofs.Gathers.{gathers-none, gathers-few}
-use Rattle.held.specs.Runs.{run}
-use Rattle.held.proofs.Passes.{none-gathers, put-gathers, broken-gathers}
-use Rattle.held.proofs.gather_run.Goals as goal
-use Rattle.held.proofs.gather_run.Goals.{in-Some+in-Ok, in-Some+in_default-all, in_default}
+use Rattle.records.specs.Runs.{run}
+use Rattle.records.proofs.Passes.{none-gathers, put-gathers, broken-gathers}
+use Rattle.records.proofs.run.gather_run.Goals as goal
+use Rattle.records.proofs.run.gather_run.Goals.{in-Some+in-Ok, in-Some+in_default-all, in_default}
 
 pub loop-r-init : goal.loop-r-init
 loop-r-init c = (refl, λ j l. get_or-replicate run j (Ok nothing) (Ok nothing) l ∙ gathers-none _ _)

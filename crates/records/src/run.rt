@@ -1,15 +1,10 @@
 // What a run of slots gathers of a page's records in one pass. A write of the whole page goes by this, so that it scans the records once a run and not once a slot.
-#![tactic(auto)]
-
 ghost use Rattle.std.specs.Prelude.{◌≡◌, ℕ, ◌+◌, ◌<◌, MatchOption, get_or};
 ghost use Rattle.records.specs.Gather.{gather_of, nothing};
-ghost use Rattle.held.specs.Runs.{run};
+ghost use Rattle.records.specs.Runs.{run};
 
-use paper::{MOST_RECORDS, StuckCell};
-use records::{Gathered, NOTHING, step};
-
-// The most records that are held: one more than a page may have, so that too many are still refused.
-pub const ROOM_RECORDS: usize = MOST_RECORDS + 1;
+use crate::{Gathered, NOTHING, step};
+use paper::StuckCell;
 
 // How many slots are gathered in one pass: `run` of specs/Runs.antt.
 pub const RUN: usize = 128;
@@ -22,7 +17,7 @@ fn place_in_run(slot: u32, base: u32) -> Option<usize>
     (at < RUN).then_some(at)
 }
 
-// What the records of each slot of a run gather to, over n cells: one step a record, by `records::step`, as `records::gather` does for one slot.
+// What the records of each slot of a run gather to, over n cells: one step a record, by `step`, as `gather` does for one slot.
 pub fn gather_run(records: &[StuckCell], n: u32, base: u32) -> [Result<Gathered, usize>; RUN]
     ensures { (j : ℕ) → j < run → get_or result j (Ok nothing) ≡ gather_of (base + j) n records.now }
 {

@@ -15,7 +15,7 @@ use Rattle.records.specs.Gather.{gather_of, step_of, next_of, nothing}
 use Rattle.records.specs.declared.Gathered.{Gathered}
 use Rattle.records.proofs.Lists.{records-append, record-other}
 use Rattle.records.proofs.Gathers.{gathers-next}
-use Rattle.held.specs.Runs.{run}
+use Rattle.records.specs.Runs.{run}
 
 -- what the slots of the run that begins at base gather to, of the records before the i-th
 abbrev pub Gathers : ℕ → ℕ → List StuckCell → List (Result Gathered ℕ) → ℕ → Type 0

@@ -1,2 +1,0 @@
--- How many slots are gathered in one pass.
-pub mod Runs
