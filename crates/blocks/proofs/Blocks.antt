@@ -1,12 +1,12 @@
 -- Rows of three blocks: what stands in each, their cells, and their products, which add over the blocks.
 -- For the rules that a built sheet keeps, and for the tables of a sheet. Assumes nothing.
 use mathlib.Core.Path.{◌≡◌, sym, ap, ap₂, ◌∙◌, subst}
-use Prim.Native.Nat.{ℕ, ◌+◌, ◌*◌, ◌/◌, ◌%◌, ◌^◌, ◌≤◌, ◌<◌}
-use native.Mathlib.Nat.{zero-mul, add-mul, mul_assoc, add_assoc, div-one, div-eq_of_lt, mod-eq_of_lt, lt_of_lt_of_le, mul-le-mul_left, mul-le-mul_right}
+use Prim.Native.Nat.{ℕ, ◌+◌, ◌*◌, ◌/◌, ◌%◌, ◌^◌, ◌<◌}
+use native.Mathlib.Nat.{zero-mul, add-mul, mul_assoc, add_assoc, div-one, div-eq_of_lt, mod-eq_of_lt, lt_of_lt_of_le, mul-le-mul_right}
 use native.Mathlib.Decide.{dec_lt}
 use native.Mathlib.Omega.{arith}
 use lib.Arith.{digits_lt}
-use lib.Pow.{pow_pos, pow_mono, high, low, split, shr-shr, pow-add}
+use lib.Pow.{pow_mono, high, low, split, shr-shr, pow-add}
 use lib.Bits.{bit_and, and_block, and_lt}
 use lib.Count.{ones_cat}
 use Rattle.std.proofs.Common.{Option, Some, None, SomeIff}
@@ -98,9 +98,6 @@ module _ (k l : ℕ) where
       (sym (split (g / 2 ^ k) l) ∙ ap (λ (t : ℕ). t * 2 ^ l + g / 2 ^ k % 2 ^ l) (shr-shr g k l)) (ap (λ (t : ℕ). t % 2 ^ k) (sym (div-one g)))
 
 -- ---- blocks that fit a word, for the code's shifts
-
-pub le-raised : (x k : ℕ) → x ≤ x * 2 ^ k
-le-raised x k = omega (arith, mul-le-mul_left x (pow_pos k))
 
 -- a word that is not 0 is raised by less than the width
 raised_by : (x by w : ℕ) → 0 < x → x * 2 ^ by < 2 ^ w → by < w

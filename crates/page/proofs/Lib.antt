@@ -1,3 +1,2 @@
 -- The laws of a page's calls: how the code meets the rules.
-pub mod Machine
 pub mod Slots

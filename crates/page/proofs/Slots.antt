@@ -1,6 +1,6 @@
 -- What the records of one slot gather to never breaks rule 8, so a slot is written by 15, 7 and 9 alone: the code's steps tell what the definition tells.
--- For `page_write`. And what is told of a write says what it leaves, for a proof by hand. Assumes nothing.
-use mathlib.Core.Path.{◌≡◌, sym, ap, ◌∙◌}
+-- For `page_write`. Assumes nothing.
+use mathlib.Core.Path.{◌≡◌, sym, ap}
 use mathlib.Core.Bool.{◌&&◌}
 use mathlib.Core.List.{List}
 use Prim.Native.Nat.{ℕ, min}
@@ -9,7 +9,7 @@ use native.Mathlib.Omega.{arith}
 use lib.Dec.{ltb}
 use lib.ListN.{length}
 use Rattle.paper.specs.First.{First, nowhere, at}
-use Rattle.paper.specs.Page.{records_of, first_broken, few_slots, few_records, slot_writes, page_writes, page_after_write}
+use Rattle.paper.specs.Page.{records_of, first_broken, few_slots, few_records, slot_writes, page_writes}
 use Rattle.paper.specs.Refusals.{Told, unless}
 use Rattle.paper.specs.Sheet.{Sheet}
 use Rattle.paper.specs.Words.{width}
@@ -42,8 +42,3 @@ pub with-gathered : (s : Sheet) (number : ℕ) (page : List ℕ) (records : List
 unfolding writes_with page_writes
 with-gathered s number page records slot w =
     alike-when-sound s number (few_slots page && few_records records) _ _ (λ ok. ap (λ (t : Told). unless (ltb slot (length page)) 14 t) (puts-slot s ok records slot w))
-
--- what is told by another name is what the page was left by
-pub leaves : (page : List ℕ) (slot : ℕ) {told a b : Told} {left : List ℕ} → a ≡ b → (told ≡ a) × (left ≡ page_after_write a page slot)
-    → (told ≡ b) × (left ≡ page_after_write b page slot)
-leaves page slot e h = (h.0 ∙ e, h.1 ∙ ap (λ (t : Told). page_after_write t page slot) e)

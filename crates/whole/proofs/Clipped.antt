@@ -1,13 +1,10 @@
 -- Slots or records of which there are too many stop the whole-page write, and nothing is changed: it tells and leaves the same of a list that is clipped at one more than there may be.
--- For the console, whose rooms for a page and its records have no more, and for whoever holds the first of a list's records. Assumes nothing.
-use mathlib.Core.Path.{◌≡◌, sym, ap, ◌∙◌}
+-- For the console, whose rooms for a page and its records have no more. Assumes nothing.
+use mathlib.Core.Path.{◌≡◌, ap, ◌∙◌}
 use mathlib.Core.Bool.{Bool, false, ◌&&◌, and-false}
 use mathlib.Core.List.{List, []}
-use Prim.Native.Nat.{ℕ, ◌+◌, ◌≤◌, min}
-use native.Mathlib.Decide.{dec_le}
-use native.Mathlib.Omega.{arith}
+use Prim.Native.Nat.{ℕ, ◌+◌}
 use lib.ListN.{length, take}
-use lib.Seq.{take_all}
 use Rattle.paper.specs.Page.{most_slots, most_records, few_slots, few_records, paged}
 use Rattle.paper.specs.WholePage.{one_each_slot, whole_writes, page_through, notes_through, whole_page, whole_notes}
 use Rattle.paper.specs.Refusals.{Told, answer, leaves, unless}
@@ -64,12 +61,3 @@ module _ (s : Sheet) (number : ℕ) (messages notes : List ℕ) where
     records-notes =
         clipped most_records records (λ rs. whole_notes s number page rs messages notes) notes
         (λ rs e. left page rs (many-records page rs e) (notes_through s number page rs messages notes (length page)) notes)
-
--- the records that are held of a lent list are its first, one more than there may be
-pub held_first : (count : ℕ) (held records : List StuckCell) → count ≡ min (length records) (most_records + 1) → take count held ≡ take count records
-    → take count held ≡ take (most_records + 1) records
-held_first count held records e h = h ∙ ap (λ (m : ℕ). take m records) e ∙ go (dec_le (length records) (most_records + 1))
-  where
-    go : Dec (length records ≤ most_records + 1) → take (min (length records) (most_records + 1)) records ≡ take (most_records + 1) records
-    go (yes l) = take_all (min (length records) (most_records + 1)) records (omega arith) ∙ sym (take_all (most_records + 1) records (omega arith))
-    go (no l) = ap (λ (m : ℕ). take m records) (let q : min (length records) (most_records + 1) ≡ most_records + 1 = omega arith in q)
