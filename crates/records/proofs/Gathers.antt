@@ -63,6 +63,12 @@ spoils-breaks n rs r a = rw (least n width r.cell, a.tells r) (assoc (leb n r.ce
 
 -- ---- a step
 
+-- at a record of another slot nothing changes
+pub step_other : (slot n : ℕ) (r : StuckCell) → eqb r.slot slot ≡ false → (g : Result Gathered ℕ) → next_of slot n g r ≡ g
+unfolding step_of
+step_other slot n r o (Ok g) = rw o
+step_other slot n r o (Err i) = refl
+
 module _ (slot n : ℕ) (rs : List StuckCell) (r : StuckCell) where
   -- after records of which none breaks the rule
   step-on : (b : Bool) → spoils n (said_by rs) r ≡ b → eqb r.slot slot ≡ true
@@ -76,16 +82,11 @@ module _ (slot n : ℕ) (rs : List StuckCell) (r : StuckCell) where
   step-own nowhere e o = step-on (breaks (min n width) rs r) (spoils-breaks n rs r (unbroken (min n width) rs e)) o
   step-own (at i) e o = refl
 
-  step_other : (f : First) → eqb r.slot slot ≡ false → next_of slot n (gathered_at f rs) r ≡ gathered_at f rs
-  unfolding step_of
-  step_other nowhere o = rw o
-  step_other (at i) o = refl
-
   step_by : (b : Bool) → eqb r.slot slot ≡ b
       → next_of slot n (gathered_at (first_broken (min n width) rs) rs) r
       ≡ gathered_at (first_broken (min n width) (cond b (rs ++ r ∷ []) rs)) (cond b (rs ++ r ∷ []) rs)
   step_by true o = rw (broken-more (min n width) rs r) (step-own (first_broken (min n width) rs) refl o)
-  step_by false o = step_other (first_broken (min n width) rs) o
+  step_by false o = step_other slot n r o (gathered_at (first_broken (min n width) rs) rs)
 
 step-more : (slot n : ℕ) (xs : List StuckCell) (r : StuckCell) → next_of slot n (gather_of slot n xs) r ≡ gather_of slot n (xs ++ r ∷ [])
 unfolding gather_of

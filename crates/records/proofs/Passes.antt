@@ -1,20 +1,19 @@
 -- One record more changes what the slots of a run gather to at its own slot alone. For `gather_run`, whose loop has gathered the records that it passed, for all slots of the run at once.
 -- Assumes nothing.
 use mathlib.Core.Path.{◌≡◌, refl, sym, ap, ◌∙◌}
-use mathlib.Core.List.{List, [], ◌∷◌, ◌++◌, append-nil}
+use mathlib.Core.List.{List}
 use Prim.Native.Nat.{ℕ, ◌+◌, ◌<◌}
-use native.Mathlib.Numerals.{add-one}
 use native.Mathlib.Decide.{ℕ_discrete}
 use native.Mathlib.Omega.{arith}
+use borrow.Author.Tests.{ne_eqb}
 use lib.ListN.{length, get_or, take, set}
-use lib.Seq.{take-suc, get_or-set_same, get_or-set_other}
-use Rattle.paper.specs.Page.{records_of, no_record}
+use lib.Seq.{get_or-set_same, get_or-set_other}
+use Rattle.paper.specs.Page.{no_record}
 use Rattle.paper.specs.declared.StuckCell.{StuckCell}
 use Rattle.std.proofs.Common.{Result, Ok, Err}
 use Rattle.records.specs.Gather.{gather_of, step_of, next_of, nothing}
 use Rattle.records.specs.declared.Gathered.{Gathered}
-use Rattle.records.proofs.Lists.{records-append, record-other}
-use Rattle.records.proofs.Gathers.{gathers-next}
+use Rattle.records.proofs.Gathers.{step_other, gathers-next}
 use Rattle.records.specs.Runs.{run}
 
 -- what the slots of the run that begins at base gather to, of the records before the i-th
@@ -24,16 +23,8 @@ Gathers base n ys all i = (j : ℕ) → j < run → get_or all j (Ok nothing) �
 -- a record of another slot is passed
 passed : (slot n : ℕ) (ys : List StuckCell) (i : ℕ) → i < length ys → ((get_or ys i no_record).slot ≡ slot → ⊥)
     → gather_of slot n (take i ys) ≡ gather_of slot n (take (i + 1) ys)
-unfolding gather_of
 passed slot n ys i h other =
-    let r = get_or ys i no_record in
-    let own : records_of slot (take (i + 1) ys) ≡ records_of slot (take i ys) =
-    ap (λ (m : ℕ). records_of slot (take m ys)) (add-one i)
-    ∙ ap (records_of slot) (take-suc ys i no_record h)
-    ∙ records-append slot (take i ys) (r ∷ [])
-    ∙ ap (λ (rs : List StuckCell). records_of slot (take i ys) ++ rs) (record-other slot r [] other)
-    ∙ append-nil (records_of slot (take i ys)) in
-    rw own
+    sym (step_other slot n (get_or ys i no_record) (ne_eqb (get_or ys i no_record).slot slot other) (gather_of slot n (take i ys))) ∙ gathers-next slot n ys i h
 
 module _ (base n : ℕ) (ys : List StuckCell) (all : List (Result Gathered ℕ)) (i : ℕ) (h : i < length ys) (so : Gathers base n ys all i) where
   -- the next record is of no slot of the run
