@@ -142,8 +142,8 @@ module _ (s : Sheet) (for_p for_r for_q : ℕ) where
   pub tables-1 : (gives s for_p for_r for_q ≡ refusal 1 []) ↔ ((rooms ≡ false) ⊎ ((rooms ≡ true) × (admits s ≡ refusal 1 [])))
   unfolding gives
   tables-1 =
-      let i = own-or 1 _ rooms in
-      let j = sheet-told s (gives_admitted s) (late (λ t. of_sheet t ≡ false) refl refl) 1 [] (omega arith) in (
+      let j = sheet-told s (gives_admitted s) (late (λ t. of_sheet t ≡ false) refl refl) 1 [] (omega arith) in
+      let i = own-or 1 _ rooms in (
         λ e. elim (i.0 e) [ inl a ↦ inl a | inr b ↦ inr (b.0, j.0 b.1) ],
         λ p. i.1 (elim p [ inl a ↦ inl a | inr b ↦ inr (b.0, j.1 b.1) ]),
       )
