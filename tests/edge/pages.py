@@ -18,7 +18,7 @@ def _():
                 script.append(line[6:])
                 end = next(i for i in range(at + 1, len(lines) + 1) if i == len(lines) or not lines[i].startswith("    ") or lines[i].startswith("    $ "))
                 wanted.append("".join(text[4:] + "\n" for text in lines[at + 1 : end]))
-        status, out, err = run(["sh", "-c", "\n".join("%s\necho ---" % line for line in script)], cwd=ROOT, limit=50)  # docs/HOWTO.md has thirty starts
+        status, out, err = run(["sh", "-c", "\n".join("%s\necho ---" % line for line in script)], cwd=ROOT, limit=100)  # docs/HOWTO.md has thirty starts
         same((status, err), (0, b""), "status and standard error of %s" % os.path.basename(page))
         same(out.decode().split("---\n")[:-1], wanted, os.path.basename(page))
 
