@@ -215,12 +215,11 @@ def _():
 
 @test("the door: a start that waits long for another's check says so, once")
 def _():
-    stand = Stand(check="sleep 5; " + PASSES)
+    stand = Stand(check="[ -e target/first ] || { >target/first; sleep 5; }; " + PASSES)  # the second's own check is quick, whenever it begins
     first = stand.start(stdin=subprocess.DEVNULL)
     holds(soon(lambda: os.path.exists(os.path.join(stand.checkout, "target/console.log"))), "the first did not start")
     second = stand.start(stdin=subprocess.DEVNULL)
     same(ended(first), (0, b"", b"namestore: proving, some minutes, once\n"), "outcome of the first")
-    stand.file("kit/check", PASSES)
     status, out, err = ended(second)
     same((status, out, err.split(b",")[0], err.count(b"\n")), (0, b"", b"namestore: waiting for another start", 1), "outcome of the second")
 
