@@ -1,16 +1,16 @@
 -- One step more gathers one record more, and behind the first that breaks the rule nothing changes: the steps over all records are what the records of the slot gather to.
 -- For `gather`, whose loop has gathered the records that it passed. Assumes nothing.
-use mathlib.Core.Path.{◌≡◌, refl, sym, ap, ap₂, ◌∙◌}
+use mathlib.Core.Path.{◌≡◌, refl, sym, ap, ap₂, ◌∙◌, subst}
 use mathlib.Core.Bool.{Bool, true, false, cond, ◌||◌}
 use mathlib.Core.List.{List, [], ◌∷◌, ◌++◌, append-nil, append_assoc}
-use Prim.Native.Nat.{ℕ, suc, ◌+◌, ◌≤◌, ◌<◌, min}
+use Prim.Native.Nat.{ℕ, suc, ◌+◌, ◌^◌, ◌≤◌, ◌<◌, min}
 use native.Mathlib.Nat.{le_refl}
 use native.Mathlib.Numerals.{add-one}
 use native.Mathlib.Decide.{dec_lt}
 use native.Mathlib.Omega.{arith}
 use borrow.Author.Tests.{le-leb, lt-leb}
 use lib.Dec.{eqb, leb}
-use Rattle.std.proofs.Common.{Result, Ok, Err}
+use Rattle.std.specs.Prelude.{Result, Ok, Err, IfOk, MatchResult}
 use lib.ListN.{length, get_or, take, drop, take-append-drop, length-append, length-take, get_or-append}
 use lib.Seq.{take-suc, take-append-le, take-append_seam, get_or-append_seam}
 use Rattle.paper.specs.First.{First, nowhere, at, or_at, first}
@@ -21,7 +21,7 @@ use Rattle.records.specs.Gather.{said_by, gathered_at, nothing, gather_of, spoil
 use Rattle.records.specs.declared.Gathered.{Gathered}
 use Rattle.records.proofs.Lists.{records-append}
 use Rattle.records.proofs.Said.{stuck-more, levels-more, Agreed, unbroken}
-use Rattle.words.proofs.Firsts.{first-same}
+use Rattle.words.proofs.Firsts.{first-same, first-at}
 
 -- ---- one record more, behind the others
 
@@ -103,9 +103,9 @@ pub gathers-next : (slot n : ℕ) (ys : List StuckCell) (i : ℕ) → i < length
 gathers-next slot n ys i h =
     step-more slot n (take i ys) (get_or ys i no_record) ∙ rw (add-one i, take-suc ys i no_record h)
 
--- a step behind records of which none breaks the rule
-pub gathers-step : (slot n : ℕ) (ys : List StuckCell) (i : ℕ) → i < length ys → {g : Gathered} → Ok g ≡ gather_of slot n (take i ys)
-    → step_of slot n g (get_or ys i no_record) ≡ gather_of slot n (take (i + 1) ys)
+-- a step behind what was gathered of them
+pub gathers-step : (slot n : ℕ) (ys : List StuckCell) (i : ℕ) → i < length ys → {g : Result Gathered ℕ} → g ≡ gather_of slot n (take i ys)
+    → next_of slot n g (get_or ys i no_record) ≡ gather_of slot n (take (i + 1) ys)
 gathers-step slot n ys i h e = ap (λ (g : Result Gathered ℕ). next_of slot n g (get_or ys i no_record)) e ∙ gathers-next slot n ys i h
 
 -- behind the first that breaks the rule nothing changes
@@ -126,12 +126,21 @@ own-few slot (x ∷ xs) = go (eqb x.slot slot) (own-few slot xs)
     go true h = omega arith
     go false h = omega arith
 
-place_few : (rs : List StuckCell) (f : First) {g : Gathered} → gathered_at f rs ≡ Ok g → g.place ≤ length rs
-place_few rs nowhere {g} e = let q : said_by rs ≡ g = cc in omega (arith, ap (λ (x : Gathered). x.place) q)
-place_few rs (at i) e = cc
+place_few : (n m : ℕ) (rs : List StuckCell) (f : First) → first_broken n rs ≡ f → length rs ≤ m → MatchResult (gathered_at f rs) (λ g. g.place ≤ m) (λ at. at ≤ m)
+unfolding first_broken
+place_few n m rs nowhere e h = h
+place_few n m rs (at i) e h = omega (arith, (first-at (λ i. breaks n (take i rs) (get_or rs i no_record)) (length rs) i e).0)
 
--- no more records are counted than were passed
-pub gathers-few : (slot n : ℕ) (ys : List StuckCell) (i : ℕ) {g : Gathered} → gather_of slot n (take i ys) ≡ Ok g → g.place ≤ i
+-- no more records are counted than were passed, and the place of the one that breaks the rule is no further
+pub gathers-few : (slot n : ℕ) (ys : List StuckCell) (i : ℕ) → MatchResult (gather_of slot n (take i ys)) (λ g. g.place ≤ i) (λ at. at ≤ i)
 unfolding gather_of
-gathers-few slot n ys i e =
-    omega (arith, place_few (records_of slot (take i ys)) _ e, own-few slot (take i ys), length-take i ys)
+gathers-few slot n ys i =
+    place_few (min n width) i (records_of slot (take i ys)) _ refl (omega (arith, own-few slot (take i ys), length-take i ys))
+
+-- so a machine's number has room for one more
+pub gathers-room : (slot n : ℕ) (ys : List StuckCell) (i : ℕ) {g : Result Gathered ℕ} → g ≡ gather_of slot n (take i ys) → i + 1 < 2 ^ 64
+    → IfOk g (λ g. g.place + 1 < 2 ^ 64)
+gathers-room slot n ys i {g = Ok g} e h =
+    let few = subst (λ (x : Result Gathered ℕ). MatchResult x (λ g. g.place ≤ i) (λ at. at ≤ i)) (sym e) (gathers-few slot n ys i) in
+    omega (arith, few)
+gathers-room slot n ys i {g = Err place} e h = tt

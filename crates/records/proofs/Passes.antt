@@ -1,6 +1,6 @@
 -- One record more changes what the slots of a run gather to at its own slot alone. For `gather_run`, whose loop has gathered the records that it passed, for all slots of the run at once.
 -- Assumes nothing.
-use mathlib.Core.Path.{◌≡◌, refl, sym, ap, ◌∙◌}
+use mathlib.Core.Path.{◌≡◌, sym, ap, ◌∙◌}
 use mathlib.Core.List.{List}
 use Prim.Native.Nat.{ℕ, ◌+◌, ◌<◌}
 use native.Mathlib.Decide.{ℕ_discrete}
@@ -10,8 +10,8 @@ use lib.ListN.{length, get_or, take, set}
 use lib.Seq.{get_or-set_same, get_or-set_other}
 use Rattle.paper.specs.Page.{no_record}
 use Rattle.paper.specs.declared.StuckCell.{StuckCell}
-use Rattle.std.proofs.Common.{Result, Ok, Err}
-use Rattle.records.specs.Gather.{gather_of, step_of, next_of, nothing}
+use Rattle.std.proofs.Common.{Result, Ok}
+use Rattle.records.specs.Gather.{gather_of, next_of, nothing}
 use Rattle.records.specs.declared.Gathered.{Gathered}
 use Rattle.records.proofs.Gathers.{step_other, gathers-next}
 use Rattle.records.specs.Runs.{run}
@@ -31,35 +31,18 @@ module _ (base n : ℕ) (ys : List StuckCell) (all : List (Result Gathered ℕ))
   pub none-gathers : ((j : ℕ) → j < run → base + j ≡ (get_or ys i no_record).slot → ⊥) → Gathers base n ys all (i + 1)
   none-gathers none j l = so j l ∙ passed (base + j) n ys i h (λ e. none j l (sym e))
 
-  -- it is of the slot at a place of the run, where it is gathered, and the others stay
-  one-gathers : (at : ℕ) (all' : List (Result Gathered ℕ)) → at < run → base + at ≡ (get_or ys i no_record).slot
-      → get_or all' at (Ok nothing) ≡ next_of (get_or ys i no_record).slot n (get_or all at (Ok nothing)) (get_or ys i no_record)
-      → ((j : ℕ) → (j ≡ at → ⊥) → get_or all' j (Ok nothing) ≡ get_or all j (Ok nothing)) → Gathers base n ys all' (i + 1)
-  one-gathers at all' l own e others j lj = go (ℕ_discrete j at)
+  -- it is of the slot at a place of the run
+  pub one-gathers : (at : ℕ) (g : Result Gathered ℕ) → at < run → at < length all → base + at ≡ (get_or ys i no_record).slot
+      → g ≡ next_of (get_or ys i no_record).slot n (get_or all at (Ok nothing)) (get_or ys i no_record) → Gathers base n ys (set all at g) (i + 1)
+  one-gathers at g l room own e j lj = go (ℕ_discrete j at)
     where
-      go : Dec (j ≡ at) → get_or all' j (Ok nothing) ≡ gather_of (base + j) n (take (i + 1) ys)
+      go : Dec (j ≡ at) → get_or (set all at g) j (Ok nothing) ≡ gather_of (base + j) n (take (i + 1) ys)
       go (yes q) =
-          ap (λ (m : ℕ). get_or all' m (Ok nothing)) q ∙ e
+          ap (λ (m : ℕ). get_or (set all at g) m (Ok nothing)) q ∙ get_or-set_same all at g (Ok nothing) room ∙ e
           ∙ ap (λ (x : Result Gathered ℕ). next_of (get_or ys i no_record).slot n x (get_or ys i no_record)) (so at l)
           ∙ ap (λ (m : ℕ). next_of m n (gather_of (base + at) n (take i ys)) (get_or ys i no_record)) (sym own)
           ∙ gathers-next (base + at) n ys i h
           ∙ ap (λ (m : ℕ). gather_of (base + m) n (take (i + 1) ys)) (sym q)
       go (no q) =
-          others j q ∙ so j lj
+          get_or-set_other all at j g (Ok nothing) q ∙ so j lj
           ∙ passed (base + j) n ys i h (λ p. q (omega (arith, own, p)))
-
-  -- it is put behind those of its slot
-  pub put-gathers : (at : ℕ) (acc : Gathered) (g : Result Gathered ℕ) → at < run → at < length all → base + at ≡ (get_or ys i no_record).slot
-      → get_or all at (Ok nothing) ≡ Ok acc → g ≡ step_of (get_or ys i no_record).slot n acc (get_or ys i no_record) → Gathers base n ys (set all at g) (i + 1)
-  put-gathers at acc g l room own o e =
-      one-gathers at (set all at g) l own
-      (get_or-set_same all at g (Ok nothing) room ∙ e ∙ sym (ap (λ (x : Result Gathered ℕ). next_of (get_or ys i no_record).slot n x (get_or ys i no_record)) o))
-      (λ j q. get_or-set_other all at j g (Ok nothing) q)
-
-  -- or one of its slot breaks the rule already
-  pub broken-gathers : (at : ℕ) → at < run → base + at ≡ (get_or ys i no_record).slot → ((acc : Gathered) → get_or all at (Ok nothing) ≡ Ok acc → ⊥) → Gathers base n ys all (i + 1)
-  broken-gathers at l own broken = one-gathers at all l own (go (get_or all at (Ok nothing)) broken) (λ j q. refl)
-    where
-      go : (g : Result Gathered ℕ) → ((acc : Gathered) → g ≡ Ok acc → ⊥) → g ≡ next_of (get_or ys i no_record).slot n g (get_or ys i no_record)
-      go (Ok acc) f = absurd (f acc refl)
-      go (Err at) f = refl

@@ -2,8 +2,8 @@
 // a run of slots, by the same step.
 #![tactic(auto)]
 
-ghost use Rattle.std.specs.Prelude.{◌≡◌, ◌+◌, ◌<◌, ◌^◌};
-ghost use Rattle.records.specs.Gather.{gather_of, spoils, step_of};
+ghost use Rattle.std.specs.Prelude.{◌≡◌, ◌+◌, ◌<◌, ◌^◌, IfOk};
+ghost use Rattle.records.specs.Gather.{gather_of, spoils, next_of};
 
 mod run;
 
@@ -36,11 +36,17 @@ fn breaks_rule(acc: Gathered, r: StuckCell, n: u32) -> bool
         || (acc.mask >> r.cell) % 2 == 1 && (acc.levels >> r.cell) % 2 != r.level as Word
 }
 
-// One record more: the one place that says what a record does to what was gathered before it. The place of one that breaks the rule is the error.
-pub fn step(acc: Gathered, r: StuckCell, slot: u32, n: u32) -> Result<Gathered, usize>
-    requires { acc.place + 1 < 2 ^ 64 }
-    ensures { result ≡ step_of slot n acc r }
+// One record more: the one place that says what a record does to what was gathered before it. The place of one that breaks the rule is the error, and behind it nothing changes.
+pub fn step(
+    acc: Result<Gathered, usize>,
+    r: StuckCell,
+    slot: u32,
+    n: u32,
+) -> Result<Gathered, usize>
+    requires { IfOk acc (λ g. g.place + 1 < 2 ^ 64) }
+    ensures { result ≡ next_of slot n acc r }
 {
+    let acc = acc?;
     if r.slot != slot {
         return Ok(acc);
     }
@@ -61,7 +67,7 @@ pub fn gather(records: &[StuckCell], slot: u32, n: u32) -> Result<Gathered, usiz
 {
     let mut acc = NOTHING;
     for r in records {
-        acc = step(acc, *r, slot, n)?;
+        acc = step(Ok(acc), *r, slot, n)?;
     }
     Ok(acc)
 }

@@ -24,9 +24,7 @@ pub fn gather_run(records: &[StuckCell], n: u32, base: u32) -> [Result<Gathered,
     let mut all = [Ok(NOTHING); RUN];
     for r in records {
         if let Some(at) = place_in_run(r.slot, base) {
-            if let Ok(acc) = all[at] {
-                all[at] = step(acc, *r, r.slot, n);
-            }
+            all[at] = step(all[at], *r, r.slot, n);
         }
     }
     all

@@ -1,7 +1,7 @@
 -- `gather` meets its contract: a step takes one record more, and behind the first that breaks the rule nothing changes.
 use Rattle.std.proofs.Common.{sym, ◌∙◌, ◌+◌, arith}
 use Rattle.std.proofs.lemmas.Result.{err_from_is_err_and}
-use Rattle.records.proofs.Gathers.{gathers-none, gathers-step, gathers-broken, gathers-few}
+use Rattle.records.proofs.Gathers.{gathers-none, gathers-step, gathers-broken, gathers-room}
 use Rattle.records.proofs.gather.Goals as goal
 
 pub loop-r-init : goal.loop-r-init
@@ -10,7 +10,7 @@ loop-r-init c = gathers-none c.args.slot c.args.n
 pub step-requires : goal.step-requires
 step-requires c =
     let a = c.args in
-    omega (arith, gathers-few a.slot a.n a.records.now c.loop-r.r-index (sym c.loop-r.invariant))
+    gathers-room a.slot a.n a.records.now c.loop-r.r-index c.loop-r.invariant (omega arith)
 
 pub returns-in_err-acc : goal.returns-in_err-acc
 returns-in_err-acc c =
