@@ -1,5 +1,5 @@
 -- Talk: the answers to the whole input, and the steps through it.
-use Rattle.std.specs.Prelude.{◌≡◌, List, [], ◌∷◌, ◌++◌, Bool, cond, ℕ, ◌+◌, ◌*◌, ◌≤◌, ◌<◌, ltb, length, take, drop}
+use Rattle.std.specs.Prelude.{◌≡◌, List, [], ◌∷◌, ◌++◌, Bool, cond, ℕ, ◌+◌, ◌*◌, ◌≤◌, ◌<◌, min, ltb, length, take, drop}
 use Rattle.text.specs.Tokens.{up_to, cut, Whole}
 use Rattle.text.specs.Puts.{Put}
 use Rattle.lines.specs.Lines.{asked, asked_in, room_line}
@@ -34,6 +34,7 @@ ends input = ltb (length (up_to 10 input)) (length input)
 
 -- what a step leaves, to the last byte of each room
 pub record Left (input : List ℕ) (held : ℕ) (line ns out : List ℕ) (r : Step) (line' ns' out' : List ℕ) : Type 0 where
+  pub passes : r.from ≡ min (length input) (length (up_to 10 input) + 1)
   pub goes : r.rest.now ≡ drop (length (up_to 10 input) + 1) input
   pub holds : r.held ≡ cond (ends input) 0 (length (taken input held line))
   pub lines : line' ≡ taken input held line ++ drop (length (taken input held line)) line

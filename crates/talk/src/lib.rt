@@ -1,7 +1,7 @@
 // The conversation: the answer to a line, and the steps through the input, however it is cut into pieces. Nothing here reads or writes.
 #![tactic(auto)]
 
-ghost use Rattle.std.specs.Prelude.{◌≡◌, ◌*◌, ◌≤◌, ◌<◌, length, take};
+ghost use Rattle.std.specs.Prelude.{◌≡◌, ◌*◌, ◌≤◌, ◌<◌, length, take, drop};
 ghost use Rattle.text.specs.Tokens.{Whole};
 ghost use Rattle.text.specs.Puts.{Put};
 ghost use Rattle.lines.specs.Lines.{asked, asked_in, room_line};
@@ -11,7 +11,7 @@ ghost use Rattle.talk.specs.Talk.{Rooms, Stepped, Left};
 
 use lines::Line;
 use paper::Word;
-use text::{put, take_line};
+use text::{Taken, put, take_line};
 use verbs::{ask, reply};
 
 // Puts the answer to a line, if it gets one.
@@ -32,10 +32,11 @@ fn answer(line: &[u8], ns: &mut [Word], out: &mut [u8]) -> usize
     }
 }
 
-// What a step leaves: how many bytes are held of a line that has not ended, the input behind what was taken, and how many bytes the answer has.
+// What a step leaves: how many bytes are held of a line that has not ended, how many of the input were taken and the input behind them, and how many bytes the answer has.
 #[derive(Clone, Copy)]
 pub struct Step<'a> {
     pub held: usize,
+    pub from: usize,
     pub rest: &'a [u8],
     pub at: usize,
 }
@@ -55,18 +56,24 @@ pub fn take_step<'a>(
     requires whole { Whole 10 (take held line.old) }
     requires rooms { Rooms line.old ns.old out.old }
     ensures stepped { Stepped (take held line.old) input.now (take result.at out.new) (take result.held line.new) result.rest.now }
-    ensures in_bounds { (length result.rest.now < length input.now) × (result.held ≤ length line.old) × (result.at ≤ length out.old) }
+    ensures rest_value { result.rest.now ≡ drop result.from input.now }
+    ensures in_bounds { (0 < result.from) × (result.from ≤ length input.now) × (length result.rest.now < length input.now) × (result.held ≤ length line.old) × (result.at ≤ length out.old) }
     ensures left { Left input.now held line.old ns.old out.old result line.new ns.new out.new }
 {
-    let taken = take_line(input, line, held);
-    let held = taken.held;
-    let Some(rest) = taken.rest else {
+    let Taken { held, from, rest } = take_line(input, line, held);
+    let Some(rest) = rest else {
         return Step {
             held,
+            from,
             rest: &[],
             at: 0,
         };
     };
     let at = answer(&line[..held], ns, out);
-    Step { held: 0, rest, at }
+    Step {
+        held: 0,
+        from,
+        rest,
+        at,
+    }
 }

@@ -86,10 +86,12 @@ pub fn put_named(out: &mut [u8], at: usize, name: &[u8], n: u64, end: &[u8]) -> 
     put(out, numbered, end)
 }
 
-// What was taken of a line: how many of its bytes are held, and the input behind the newline that ended it, if one did.
+// What was taken of a line: how many of its bytes are held, where in the input the next line begins, and the input behind the newline that ended it, if one did.
+// The number lends nothing: whoever fills the input anew goes on by it.
 #[derive(Clone, Copy)]
 pub struct Taken<'a> {
     pub held: usize,
+    pub from: usize,
     pub rest: Option<&'a [u8]>,
 }
 
@@ -97,6 +99,7 @@ pub struct Taken<'a> {
 pub fn take_line<'a>(input: &'a [u8], line: &mut [u8], held: usize) -> Taken<'a>
     requires { held ≤ length line.old }
     ensures rest_value { MatchOption result.rest (length (up_to 10 input.now) ≡ length input.now) (λ rest. (length (up_to 10 input.now) < length input.now) × (rest.now ≡ drop (length (up_to 10 input.now) + 1) input.now)) }
+    ensures from_value { result.from ≡ min (length input.now) (length (up_to 10 input.now) + 1) }
     ensures held_after_in_bounds { result.held ≤ length line.old }
     ensures line_after { take result.held line.new ≡ take (length line.old) (take held line.old ++ up_to 10 input.now) }
     ensures line_unchanged { drop result.held line.new ≡ drop result.held line.old }
@@ -104,6 +107,7 @@ pub fn take_line<'a>(input: &'a [u8], line: &mut [u8], held: usize) -> Taken<'a>
     let (taken, rest) = next_token(input, b'\n');
     Taken {
         held: append(line, held, taken),
+        from: input.len().min(taken.len() + 1),
         rest,
     }
 }
