@@ -50,3 +50,11 @@ pub fn admit<'a>(sheet: &Sheet<'a>, number: u32, few: bool) -> Result<Admitted<'
     }
     Ok(admitted)
 }
+
+// The verdict of `admit` alone, which lends nothing: for whoever keeps it and changes the rows.
+pub fn judge(sheet: &Sheet, number: u32, few: bool) -> Result<(), Refusal>
+    ensures { verdict result ≡ paged sheet.now number few (answer []) }
+{
+    admit(sheet, number, few)?;
+    Ok(())
+}
