@@ -1,8 +1,8 @@
--- Labels with values, one after the other, and the numbers of a list.
+-- Labels with values, one after the other, what was told by its kind, and the numbers of a list.
 -- The functions' proofs cite them.
-use mathlib.Core.Path.{◌≡◌, sym, ap, ap₂, ◌∙◌}
+use mathlib.Core.Path.{◌≡◌, refl, sym, ap, ap₂, ◌∙◌}
 use mathlib.Core.List.{List, [], ◌∷◌, ◌++◌, append_assoc}
-use Prim.Native.Nat.{ℕ, suc, ◌+◌, ◌≤◌, ◌<◌}
+use Prim.Native.Nat.{ℕ, zero, suc, ◌+◌, ◌≤◌, ◌<◌}
 use native.Mathlib.Numerals.{add-one}
 use native.Mathlib.Omega.{arith}
 use lib.ListN.{length, get_or, drop, drop_of_length-le}
@@ -11,7 +11,9 @@ use Rattle.text.specs.Tokens.{up_to}
 use Rattle.text.specs.Puts.{decimal}
 use denote.Ref.{Bor}
 use Rattle.std.specs.Prelude.{Option, Some, None, MatchOption}
-use Rattle.answers.specs.Answers.{labelled, spaced}
+use Rattle.paper.specs.Refusals.{refusal}
+use Rattle.told.specs.Telling.{told_by}
+use Rattle.answers.specs.Answers.{labelled, said, spaced}
 
 -- what is left of the labels behind the first, by what `next_token` ensures: nothing if it is the last
 labels-left : (labels label next : List ℕ) (rest : Option (Bor (List ℕ))) → label ≡ up_to 124 labels
@@ -46,6 +48,22 @@ label-turn labels label next rest first behind is values i h =
 pub label-end : (labels values : List ℕ) (i : ℕ) → length values ≤ i → labelled labels (drop i values) ≡ []
 unfolding labelled
 label-end labels values i h = ap (labelled labels) (drop_of_length-le values h)
+
+-- the text alone, where there are no values
+pub said-none : (labels values : List ℕ) → length values ≡ 0 → labels ≡ said labels values
+said-none labels [] h = refl
+said-none labels (n ∷ ns) h = absurd (omega arith)
+
+-- values stand behind their labels
+pub said-some : (labels values : List ℕ) → 0 < length values → labelled labels values ≡ said labels values
+said-some labels [] h = absurd (omega arith)
+said-some labels (n ∷ ns) h = refl
+
+-- any kind from 2 on is a refusal
+pub told-refused : (kind number : ℕ) (values : List ℕ) → 1 < kind → told_by kind number values ≡ refusal number values
+told-refused zero number values h = absurd (omega arith)
+told-refused (suc zero) number values h = absurd (omega arith)
+told-refused (suc (suc kind)) number values h = refl
 
 -- ---- lists
 

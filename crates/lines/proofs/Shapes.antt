@@ -1,6 +1,6 @@
 -- Shapes as they are read, letter by letter, and the numbers that fit them.
--- `fill` cites the first part; then comes where each number stands (`fill-stands`), and what the numbers of a record are (`records-fit`).
-use mathlib.Core.Path.{◌≡◌, refl, sym, ap, ◌∙◌, subst}
+-- `fill` cites the numbers, one token after the other; then comes where each number stands (`fill-stands`), and what the numbers of a record are (`records-fit`).
+use mathlib.Core.Path.{◌≡◌, refl, sym, ap, ap₂, ◌∙◌, subst}
 use mathlib.Core.Bool.{Bool, true, false, cond}
 use Rattle.std.specs.Prelude.{Option, Some, None, is_some, slice_get}
 use Rattle.std.proofs.lemmas.Option.{none-some, same_Some}
@@ -8,17 +8,55 @@ use mathlib.Core.List.{List, [], ◌∷◌, ◌++◌, append_assoc}
 use Prim.Native.Nat.{ℕ, zero, suc, ◌+◌, ◌-◌, ◌*◌, ◌%◌, ◌^◌, ◌≤◌, ◌<◌}
 use native.Mathlib.Nat.{add-zero, zero-add}
 use native.Mathlib.Numerals.{add-one, unary_clauses}
-use native.Mathlib.Decide.{dec_lt}
+use native.Mathlib.Decide.{dec_lt, ℕ_discrete}
 use native.Mathlib.Omega.{arith}
 use lib.Dec.{eqb}
-use lib.ListN.{length, get_or, take, drop, set, length-drop, drop_of_length-le}
+use lib.ListN.{length, get_or, take, drop, set, length-append, length-drop, drop_of_length-le}
 use lib.Seq.{drop-drop, get_or-drop, take-suc-set, drop-cons}
-use borrow.Author.Tests.{eq-eqb}
+use borrow.Author.Tests.{eq-eqb, ne_eqb}
 use Rattle.text.specs.Numerals.{numeral}
 use Rattle.text.proofs.Numerals.{numeral-most}
 use Rattle.lines.specs.Shapes.{most_of, items_of, next_of, item_of, items, unrolled, joined, before, fill, stored, filled, Fits, Records, Stands}
 
 -- ---- the letters that are to come
+
+length-items : (wide : Bool) (left : ℕ) → length (items wide left) ≡ left
+length-items wide zero = refl
+length-items wide (suc left) = ap suc (length-items wide left)
+
+-- the items that are to come, and the letters
+pub unread-length : (wide : Bool) (left at : ℕ) (shape : List ℕ) → length (items wide left ++ drop at shape) ≡ left + (length shape - at)
+unread-length wide left at shape =
+    length-append (items wide left) (drop at shape) ∙ ap₂ (λ (a b : ℕ). a + b) (length-items wide left) (length-drop at shape)
+
+module _ (wide : Bool) (left at : ℕ) (shape : List ℕ) where
+  -- while an item is to come the shape is not read
+  pub read-item : (left ≡ 0 → ⊥) → eqb left 0 ≡ eqb (length (items wide left ++ drop at shape)) 0
+  read-item n =
+      let more : length (items wide left ++ drop at shape) ≡ 0 → ⊥ = λ e. n (omega (arith, unread-length wide left at shape)) in
+      ne_eqb left 0 n ∙ sym (ne_eqb (length (items wide left ++ drop at shape)) 0 more)
+
+  -- with no item to come it is read at its last letter
+  pub read-shape : left ≡ 0 → at ≤ length shape → eqb at (length shape) ≡ eqb (length (items wide left ++ drop at shape)) 0
+  read-shape h k = go (ℕ_discrete at (length shape))
+    where
+      left_over : length (items wide left ++ drop at shape) ≡ left + (length shape - at)
+      left_over = unread-length wide left at shape
+
+      go : Dec (at ≡ length shape) → eqb at (length shape) ≡ eqb (length (items wide left ++ drop at shape)) 0
+      go (yes e) = eq-eqb at (length shape) e ∙ sym (eq-eqb (length (items wide left ++ drop at shape)) 0 (omega (arith, left_over)))
+      go (no n) =
+          ne_eqb at (length shape) n ∙ sym (ne_eqb (length (items wide left ++ drop at shape)) 0 (λ e. n (omega (arith, left_over))))
+
+-- the next letter is that of an item
+pub letter-item : (wide : Bool) (left : ℕ) (rest : List ℕ) → 0 < left → get_or (items wide left ++ rest) 0 0 ≡ item_of wide left
+letter-item wide zero rest h = absurd (omega arith)
+letter-item wide (suc n) rest h = refl
+
+-- or the next one of the shape
+pub letter-shape : (wide : Bool) (left at : ℕ) (shape : List ℕ) → left ≡ 0 → get_or (items wide left ++ drop at shape) 0 0 ≡ get_or shape at 0
+letter-shape wide zero at shape h = get_or-drop at shape 0 0 ∙ ap (λ (i : ℕ). get_or shape i 0) (add-zero at)
+letter-shape wide (suc n) at shape h = absurd (omega arith)
 
 -- no items follow an item
 item-bare : (wide : Bool) (left x : ℕ) → unrolled (item_of wide left) x ≡ []
@@ -29,12 +67,33 @@ item-bare false left x = go (eqb (left % 3) 1)
     go true = refl
     go false = refl
 
+-- behind an item there is one item less
+pub passed-item : (wide : Bool) (left : ℕ) (rest : List ℕ) (x : ℕ) → 0 < left
+    → items wide (left - 1) ++ rest ≡ unrolled (get_or (items wide left ++ rest) 0 0) x ++ drop 1 (items wide left ++ rest)
+passed-item wide zero rest x h = absurd (omega arith)
+passed-item wide (suc n) rest x h =
+    let e : suc n - 1 ≡ n = omega arith in
+    ap (λ (k : ℕ). items wide k ++ rest) e ∙ sym (ap (λ (l : List ℕ). l ++ (items wide n ++ rest)) (item-bare wide (suc n) x))
+
+-- behind a letter come its items
+pub passed-letter : (wide : Bool) (left at : ℕ) (shape : List ℕ) (x : ℕ) → left ≡ 0
+    → unrolled (get_or shape at 0) x ++ drop (at + 1) shape
+    ≡ unrolled (get_or (items wide left ++ drop at shape) 0 0) x ++ drop 1 (items wide left ++ drop at shape)
+passed-letter wide zero at shape x h =
+    ap₂ (λ (l : ℕ) (rest : List ℕ). unrolled l x ++ rest) (sym (letter-shape wide zero at shape refl)) (sym (drop-drop 1 at shape))
+passed-letter wide (suc n) at shape x h = absurd (omega arith)
+
 -- ---- the numbers, one token after the other
 
 -- the numbers that were read, and those that are to come
 abbrev pub after : List ℕ → Option (List ℕ) → Option (List ℕ)
 after xs None = None
 after xs (Some ys) = Some (xs ++ ys)
+
+-- nothing was read before
+pub after_nothing : (ns : Option (List ℕ)) → after [] ns ≡ ns
+after_nothing None = refl
+after_nothing (Some ys) = refl
 
 after_one : (xs : List ℕ) (x : ℕ) (ns : Option (List ℕ)) → after xs (joined x ns) ≡ after (xs ++ (x ∷ [])) ns
 after_one xs x None = refl

@@ -1,13 +1,13 @@
 -- The records and the words of a line: one more of them, and only as many as a room holds.
 -- For the loops that copy them. Assumes nothing.
-use mathlib.Core.Path.{◌≡◌, refl, sym, ap, ◌∙◌}
+use mathlib.Core.Path.{◌≡◌, refl, sym, ap, ap₂, ◌∙◌}
 use mathlib.Core.List.{List, [], ◌∷◌, ◌++◌}
 use Prim.Native.Nat.{ℕ, zero, suc, ◌+◌, ◌-◌, ◌*◌, ◌≤◌, ◌<◌, min}
 use native.Mathlib.Numerals.{add-one}
 use native.Mathlib.Decide.{dec_le}
 use native.Mathlib.Omega.{arith}
 use lib.ListN.{length, take, drop, set, length-take, length-drop}
-use lib.Seq.{take_all, take-take, take-suc-set}
+use lib.Seq.{take_all, take-take, take-suc, take-suc-set, get_or-drop}
 use Rattle.paper.specs.declared.StuckCell.{StuckCell}
 use Rattle.text.specs.Bytes.{bytes}
 use Rattle.lines.specs.Arguments.{at, part}
@@ -79,3 +79,13 @@ record-stored room from i ns h e =
     rw (add-one i)
     (take-suc-set room i (record_at (from + 3 * i) ns) h ∙ ap (λ (rs : List StuckCell). rs ++ (record_at (from + 3 * i) ns ∷ [])) e
     ∙ sym (records-more i from ns))
+
+-- a word is stored behind those before it
+pub word-stored : (room : List ℕ) (from i : ℕ) (ns : List ℕ) → i < length room → from + i < length ns → take i room ≡ take i (drop from ns)
+    → take (i + 1) (set room i (at ns (from + i))) ≡ take (i + 1) (drop from ns)
+word-stored room from i ns h k e =
+    let more : i < length (drop from ns) = omega (arith, length-drop from ns) in
+    rw (add-one i)
+    (take-suc-set room i (at ns (from + i)) h
+    ∙ ap₂ (λ (xs : List ℕ) (x : ℕ). xs ++ (x ∷ [])) e (sym (get_or-drop from ns i 0))
+    ∙ sym (take-suc (drop from ns) i 0 more))

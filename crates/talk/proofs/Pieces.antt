@@ -15,7 +15,7 @@ use Rattle.text.proofs.Pieces.{whole-nil, whole_join, whole_take, up_to-whole, u
 use Rattle.lines.specs.Lines.{Asked, asked, room_line}
 use Rattle.lines.proofs.Lines.{asked-held}
 use Rattle.verbs.specs.Replies.{table, reply}
-use Rattle.talk.specs.Talk.{replies, talk, Stepped, Answered}
+use Rattle.talk.specs.Talk.{replies, talk, Stepped, Answered, Rooms}
 
 replies-cons : (line : List ℕ) (lines : List (List ℕ)) → replies (line ∷ lines) ≡ reply (asked table line) ++ replies lines
 unfolding replies
@@ -116,6 +116,10 @@ module _ (room : ℕ) (wide : 1 + room_line < room) where
 
 -- ---- steps, one after the other
 
+-- before the first
+pub answered-none : (begun rest : List ℕ) → Whole 10 begun → Answered begun rest begun rest
+answered-none begun rest w = ([], record { same = λ later. refl; whole = w })
+
 -- one more: its text stands behind the texts before it
 pub answered-more : {begun rest begun' rest' text begun'' rest'' : List ℕ} → Answered begun rest begun' rest' → Stepped begun' rest' text begun'' rest''
     → Answered begun rest begun'' rest''
@@ -126,3 +130,8 @@ answered-more {text = text} {begun'' = begun''} {rest'' = rest''} (before, s) t 
     whole = t.whole;
   },
 )
+
+-- rooms of the same lengths
+pub rooms-kept : {line ns out line' ns' out' : List ℕ} → length line' ≡ length line → length ns' ≡ length ns → length out' ≡ length out → Rooms line ns out
+    → Rooms line' ns' out'
+rooms-kept l n o r = record { lines = omega arith; numbers = omega arith; answers = omega arith }

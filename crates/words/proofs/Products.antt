@@ -3,10 +3,11 @@
 use mathlib.Core.Path.{◌≡◌, refl, sym, ap, ap₂, ◌∙◌}
 use mathlib.Core.Logic.{◌⊎◌, ◌≢◌}
 use mathlib.Core.List.{List, [], ◌∷◌, ◌++◌, append_assoc}
-use Prim.Native.Nat.{ℕ, zero, suc, ◌+◌, ◌*◌, ◌/◌, ◌%◌, ◌^◌, ◌≤◌, ◌<◌, min}
+use Prim.Native.Nat.{ℕ, zero, suc, ◌+◌, ◌-◌, ◌*◌, ◌/◌, ◌%◌, ◌^◌, ◌≤◌, ◌<◌, min}
 use native.Mathlib.Nat.{zero-lt-suc, mod-lt, mod-eq_of_lt, pow-suc, lt_of_lt_of_le, lt_of_le_of_lt}
 use native.Mathlib.Omega.{arith}
-use lib.ListN.{length, get_or, length-append}
+use lib.ListN.{length, get_or, drop, length-append, length-drop, drop_of_length-le}
+use lib.Seq.{drop-cons}
 use lib.Pow.{pow_mono}
 use lib.Bits.{bit_and, and_comm, and_mod, and_le_l}
 use lib.Count.{ones, ones_step}
@@ -107,12 +108,26 @@ cell-products (m ∷ ms) x zero = cell-0 (products (m ∷ ms) x) ∙ products-od
 cell-products (m ∷ ms) x (suc i) =
     cell-suc (products (m ∷ ms) x) i ∙ ap (λ (y : ℕ). cell y i) (products-half m ms x) ∙ cell-products ms x i
 
--- ---- what the loop over the rows cites, from the last row down
+-- ---- from the last row down
 
--- the last row that is left joins those passed, and the products with these fit into as many bits as there may be rows
-pub products-back : (rows left rest passed : List ℕ) (row x n : ℕ) → length rows ≤ n → rows ≡ left ++ passed → left ≡ rest ++ row ∷ []
+-- by the place of a row: the row before it joins those from it on, none is left at the end, and the products fit into as many bits as there may be rows
+module _ (rows : List ℕ) (i x : ℕ) where
+  pub products-back : 0 < i → i ≤ length rows → products (drop (i - 1) rows) x ≡ product (get_or rows (i - 1) 0) x + 2 * products (drop i rows) x
+  unfolding products
+  products-back p h =
+      let e : suc (i - 1) ≡ i = omega arith in
+      rw (drop-cons rows (i - 1) 0 (omega arith)) (ap (λ (k : ℕ). product (get_or rows (i - 1) 0) x + 2 * products (drop k rows) x) e)
+
+  pub products-end : length rows ≤ i → products (drop i rows) x ≡ 0
+  products-end h = rw (drop_of_length-le rows h) (products-nil x)
+
+  pub products-from-lt : (n : ℕ) → length rows ≤ n → products (drop i rows) x < 2 ^ n
+  products-from-lt n h = lt_of_lt_of_le (products_lt (drop i rows) x) (pow_mono (rw length-drop (omega arith)))
+
+-- as the loop over the rows has it, by what is left of them: the last row that is left joins those passed, and the products with these fit into as many bits as there may be rows
+pub products-joined : (rows left rest passed : List ℕ) (row x n : ℕ) → length rows ≤ n → rows ≡ left ++ passed → left ≡ rest ++ row ∷ []
     → (rows ≡ rest ++ row ∷ passed) × (product row x + 2 * products passed x < 2 ^ n)
 unfolding products
-products-back rows left rest passed row x n h e f =
+products-joined rows left rest passed row x n h e f =
     let g : rows ≡ rest ++ row ∷ passed = e ∙ ap (λ (l : List ℕ). l ++ passed) f ∙ append_assoc rest (row ∷ []) passed in
     (g, lt_of_lt_of_le (products_lt (row ∷ passed) x) (pow_mono (omega (arith, ap length g, length-append rest (row ∷ passed)))))

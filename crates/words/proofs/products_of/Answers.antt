@@ -2,7 +2,7 @@
 use Rattle.std.proofs.Common.{◌≡◌, ◌+◌, ◌*◌, ◌^◌, ◌<◌, ◌∷◌, [], ◌++◌, sym, arith}
 use Rattle.std.proofs.lemmas.List.{append-nil}
 use Rattle.paper.specs.Words.{width, product, products}
-use Rattle.words.proofs.Products.{products-nil, products-back}
+use Rattle.words.proofs.Products.{products-nil, products-joined}
 use Rattle.words.proofs.products_of.Goals as goal
 
 pub loop-row-init : goal.loop-row-init
@@ -16,7 +16,7 @@ turn : (c : goal.After-product_of) → let p = c.loop-row.invariant.0 in
     let row = c.in-Some.row.now in
     (c.args.rows.now ≡ c.next.new.self.iter.rest.now ++ row ∷ p)
     × (product row c.args.x + 2 * products p c.args.x < 2 ^ width)
-turn c = products-back _ _ _ _ _ _ width (omega arith) c.loop-row.invariant.1 c.in-Some.ensures.steps
+turn c = products-joined _ _ _ _ _ _ width (omega arith) c.loop-row.invariant.1 c.in-Some.ensures.steps
 
 pub overflow_mul-word : goal.overflow_mul-word
 overflow_mul-word c = omega (arith, c.loop-row.invariant.2, turn c)
