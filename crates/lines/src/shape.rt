@@ -111,8 +111,8 @@ pub fn fill(line: &[u8], shape: &[u8], numbers: &mut [Word]) -> Option<usize>
         letters: shape,
     };
     loop {
-        let (token, behind) = next_token(rest, b' ');
         let letter = cursor.letter()?;
+        let (token, behind) = next_token(rest, b' ');
         let x = parse_number(token, most_of(letter))?;
         numbers[count] = x as Word;
         count += 1;

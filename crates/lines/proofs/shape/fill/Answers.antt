@@ -10,6 +10,7 @@ use Rattle.std.proofs.lemmas.Option.{MatchOption-at_none, MatchOption-at_some}
 use Rattle.text.specs.Numerals.{numeral}
 use Rattle.text.specs.Tokens.{up_to, cut}
 use Rattle.text.proofs.Tokens.{up_to-le, first_piece}
+use Rattle.text.proofs.Pieces.{cut-some}
 use Rattle.text.proofs.Numerals.{numeral-most, numeral-long}
 use Rattle.lines.specs.Shapes.{fill, filled, counted, held, unread, unrolled, most_of}
 use Rattle.lines.proofs.Shapes.{after, turn-over, turn-none, turn-next, room-over, room-none, room-next, stores, fill_done, fill-short, filled-end}
@@ -42,17 +43,16 @@ module _ (numbers u u' token tokens : List ℕ) (count letter x : ℕ) (ts : Lis
 pub returns-in_err-letter : goal.returns-in_err-letter
 returns-in_err-letter c =
     let l = c.loop-letter in
-    let token = c.next_token.result.0.now in
     let u = unread l.cursor in
-    let first = first_piece 32 l.rest.now token c.next_token.result.1 c.next_token.ensures.pieces in
+    let first = cut-some 32 l.rest.now in
     let over = sym c.in_err-letter.ensures in
     record {
       meaning =
           ap (λ (n : Option ℕ). counted n l.numbers) c.from_residual.ensures
-          ∙ sym (turn-over _ (take l.count l.numbers) u token first.0
-          (l.invariant.whole ∙ ap (λ (t : List (List ℕ)). after (take l.count l.numbers) (fill u t)) first.1) over);
+          ∙ sym (turn-over _ (take l.count l.numbers) u first.0 first.1
+          (l.invariant.whole ∙ ap (λ (t : List (List ℕ)). after (take l.count l.numbers) (fill u t)) first.2) over);
       result_in_bounds = omega (arith, ap held c.from_residual.ensures);
-      numbers_after = sym (room-over _ l.count l.numbers u token first.0 (l.invariant.room ∙ ap (filled l.count l.numbers u) first.1) over);
+      numbers_after = sym (room-over _ l.count l.numbers u first.0 first.1 (l.invariant.room ∙ ap (filled l.count l.numbers u) first.2) over);
     }
 
 pub returns-in_err-x : goal.returns-in_err-x
