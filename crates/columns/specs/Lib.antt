@@ -1,0 +1,2 @@
+-- What the functions on columns say of them.
+pub mod Columns
