@@ -12,7 +12,7 @@ use words::{cell_of, lowest_of};
 // A column for each cell of a word.
 pub const ROOM: usize = WIDTH as usize;
 
-// Adds `bit` to the column of each cell of the row, from the lowest cell up: as many steps as the row has cells.
+// Adds `bit` to the column of each cell of the row, from the lowest cell up: as many steps as the row has cells. `x & (x - 1)` is x without its lowest cell, and waits for no search of that cell.
 fn add_row(cols: &mut [Word; ROOM], row: Word, bit: Word)
     requires { Below bit cols.old × (bit + bit ≤ 2 ^ width) }
     ensures { AddedRow row bit cols.old cols.new }
@@ -20,7 +20,7 @@ fn add_row(cols: &mut [Word; ROOM], row: Word, bit: Word)
     let mut x = row;
     while let Some(c) = lowest_of(x) {
         cols[c as usize] += bit;
-        x ^= cell_of(c);
+        x &= x - 1;
     }
 }
 
@@ -34,7 +34,7 @@ fn add_rows(cols: &mut [Word; ROOM], rows: &[Word], start: usize)
     }
 }
 
-// The columns of the rows `clear` with the rows `stirred` behind them: two lists, since a caller's rows may lie in two places.
+// The columns of the rows `clear`, the first at bit 0, with the rows `stirred` behind them: a caller's rows lie in two places, and one sum of columns has the products with both.
 pub fn columns(clear: &[Word], stirred: &[Word]) -> [Word; ROOM]
     requires { length clear.now + length stirred.now ≤ width }
     ensures { Columns (clear.now ++ stirred.now) result }

@@ -3,4 +3,8 @@ pub mod Listed
 pub mod Lengths
 pub mod Searched
 pub mod Tests
-mod Step
+mod Choosing
+mod Find
+mod Seeking
+mod Sweeping
+mod Linked

@@ -1,13 +1,22 @@
 // The search of the list: the words over n cells by weight, then by value, until one passes the test of a read or of a measurement.
+// It goes by sums of columns: a word's products with the rows are the sum of the columns of its cells. docs/ARCHITECTURE.md says how, and what it costs.
 #![tactic(auto)]
 
-ghost use Rattle.std.specs.Prelude.{◌≡◌, ◌+◌, ◌-◌, ◌^◌, ◌<◌, ◌≤◌, eqb, length};
-ghost use Rattle.paper.specs.Words.{width, products};
-ghost use Rattle.paper.specs.Listing.{listed, weights, search};
-ghost use Rattle.listing.specs.Searches.{searched, passes, above};
+mod stages;
+mod sums;
+mod ways;
 
-use paper::{Count, Word};
-use words::{cell_of, product_of};
+ghost use Rattle.std.specs.Prelude.{◌≡◌, ◌+◌, ◌-◌, ◌^◌, ◌≤◌, length};
+ghost use Rattle.paper.specs.Words.{width};
+ghost use Rattle.paper.specs.Listing.{weights, search};
+ghost use Rattle.listing.specs.Searches.{searched, passes};
+ghost use Rattle.listing.specs.Sums.{demand};
+
+use crate::stages::search_sums;
+use crate::sums::Asked;
+use columns::columns;
+use paper::{Count, WIDTH, Word};
+use words::{ALL_CELLS, cell_of, sum_of};
 
 // What a search finds: the first word that passes, if there is one, and the number tried, which is then "the place of z in the list, counted from 1", and else the length of the list.
 #[derive(Clone, Copy)]
@@ -16,60 +25,23 @@ pub struct Found {
     pub tried: Count,
 }
 
-// Whether the product of x with each row is 0: of the rows of H, whether x is a codeword. It leaves at the first product that is not 0.
-fn is_clear(rows: &[Word], x: Word) -> bool
-    ensures { result ≡ eqb (products rows.now x) 0 }
+// The word that is 1 at the lowest r cells.
+fn low_cells(r: u32) -> Word
+    requires { r ≤ width }
+    ensures { result ≡ 2 ^ r - 1 }
 {
-    rows.iter().all(|row| product_of(*row, x) == 0)
+    if r < WIDTH { cell_of(r) - 1 } else { ALL_CELLS }
 }
 
-// The one test of a listed word z: y + z has product 0 with each row of `clear`, and product 1 with some row of `stirred`, where it has rows. The three go on unchanged through
-// the search, as parameters: a struct of them would be taken apart at every word.
-fn is_hit(clear: &[Word], stirred: &[Word], y: Word, z: Word) -> bool
-    ensures { result ≡ passes clear.now stirred.now y z }
+// The least sum that the rows `stirred` ask for: with no rows any, and else one that is not 0.
+fn least_of(stirred: &[Word]) -> Word
+    ensures { result ≡ demand stirred.now }
 {
-    let x = y ^ z;
-    is_clear(clear, x) && (stirred.is_empty() || !is_clear(stirred, x))
-}
-
-// The first hit of weight v over the lower cells, `base` added to each word and `tried` words tried before: "those of weight v over
-// the lower n - 1 cells, then those of weight v - 1 over the lower n - 1 cells with cell n - 1 added".
-fn seek(
-    clear: &[Word],
-    stirred: &[Word],
-    y: Word,
-    cells: u32,
-    v: u32,
-    base: Word,
-    tried: Count,
-) -> Found
-    requires { (cells ≤ width) × (base + 2 ^ cells ≤ 2 ^ width) × (tried + length (listed cells v) < 2 ^ width) }
-    ensures { searched result ≡ search (passes clear.now stirred.now y) tried (above base cells v) }
-{
-    if v == 0 {
-        let t = tried + 1;
-        if is_hit(clear, stirred, y, base) {
-            return Found {
-                z: Some(base),
-                tried: t,
-            };
-        }
-        return Found { z: None, tried: t };
-    }
-    if cells < v {
-        return Found { z: None, tried };
-    }
-    let c = cells - 1;
-    let fewer = v - 1;
-    let raised = base + cell_of(c);
-    let low = seek(clear, stirred, y, c, v, base, tried);
-    if low.z.is_some() {
-        return low;
-    }
-    seek(clear, stirred, y, c, fewer, raised, low.tried)
+    if stirred.is_empty() { 0 } else { 1 }
 }
 
 // The first hit of the list from weight `from` on, below weight `end`: "Words over n cells are listed by weight (number of ones), then by value."
+// A word z is a hit where y + z has product 0 with each row of `clear`, and product 1 with some row of `stirred`, where it has rows.
 pub fn search_weights(
     clear: &[Word],
     stirred: &[Word],
@@ -78,16 +50,16 @@ pub fn search_weights(
     from: u32,
     end: u32,
 ) -> Found
-    requires { (n ≤ width) × (from ≤ end) × (end ≤ width) }
+    requires { (n ≤ width) × (from ≤ end) × (end ≤ width) × (length clear.now + length stirred.now ≤ width) }
     ensures { searched result ≡ search (passes clear.now stirred.now y) 0 (weights n from (end - from)) }
 {
-    let mut tried: Count = 0;
-    for v in from..end {
-        let got = seek(clear, stirred, y, n, v, 0, tried);
-        if got.z.is_some() {
-            return got;
-        }
-        tried = got.tried;
-    }
-    Found { z: None, tried }
+    let cols = columns(clear, stirred);
+    let asked = Asked {
+        cols: &cols,
+        clear: low_cells(clear.len() as u32),
+        least: least_of(stirred),
+        marks: &[0],
+        low: 0,
+    };
+    search_sums(&asked, n, from, end, sum_of(&cols, y))
 }
