@@ -1,7 +1,8 @@
 //! The calls of document 01 on a lent sheet: writing, reading, and measuring d0 and d1,
 //! the printed radius by request 3.
 
-use crate::listing::listed;
+use crate::finding::{first_hit, Found};
+use crate::halves::Wanted;
 use crate::sheet::{admit, bare, is_codeword, message_of, placed, Parts, Refusal, Sheet};
 use crate::sums::{equation, smallest_d};
 use crate::word::{above, column, product, sum_of, Wide, Word};
@@ -94,25 +95,54 @@ pub fn readable(parts: &Parts, y: Word, radius: u32) -> Result<(), Refusal> {
 /// The first z in the list, of weight at most the radius, for which y + z is a codeword, or
 /// refusal 12; y and radius are readable ones.
 pub fn nearest(parts: &Parts, y: Word, radius: u32) -> Result<Answer, Refusal> {
-    let mut tried = 0;
-    for z in listed(parts.n, 0, radius) {
-        tried += 1;
-        if is_codeword(parts, y ^ z) {
-            let message = message_of(parts, y ^ z);
-            return Ok(Answer::Message { message, z, tried });
-        }
+    let brings_back = |z| is_codeword(parts, y ^ z);
+    let found = first_hit(
+        parts.n,
+        [0, radius],
+        brings_back,
+        &wanted_of_reading(parts, y),
+    );
+    let Some(z) = found.hit else {
+        let all = u32::try_from(found.tried).expect("words of weight up to 4");
+        return Err(placed(12, all));
+    };
+    let message = message_of(parts, y ^ z);
+    let tried = found.tried;
+    Ok(Answer::Message { message, z, tried })
+}
+
+/// Reading y wants the words z whose product with each row of H is that of y, so that those
+/// of y + z are 0.
+fn wanted_of_reading<'a>(parts: &Parts<'a>, y: Word) -> Wanted<'a> {
+    let rows = parts.h.iter().enumerate();
+    let failed = rows.filter(|(_, row)| product(**row, y));
+    Wanted {
+        rows: parts.h,
+        products: failed.fold(0, |bits, (j, _)| bits | 1 << j),
+        some_one: None,
     }
-    let all = u32::try_from(tried).expect("words of weight up to 4");
-    Err(placed(12, all))
 }
 
 /// d0: "the least weight of a nonzero word whose product with every row of G0 is 0".
 pub fn d0(sheet: &Sheet, cap: u32) -> Result<Answer, Refusal> {
     let parts = admit(sheet)?;
-    let measured = measure(&parts, cap, |word| {
-        parts.g0.iter().all(|row| !product(*row, word))
-    })?;
+    let is_hit = |word| is_hit_of_d0(&parts, word);
+    let measured = measure(parts.n, cap, is_hit, &wanted_of_d0(&parts))?;
     Ok(Answer::D0(measured))
+}
+
+/// Whether a word of weight 1 or more is one that d0 is the least weight of.
+fn is_hit_of_d0(parts: &Parts, word: Word) -> bool {
+    parts.g0.iter().all(|row| !product(*row, word))
+}
+
+/// d0 wants the words whose product with each row of G0 is 0.
+fn wanted_of_d0<'a>(parts: &Parts<'a>) -> Wanted<'a> {
+    Wanted {
+        rows: parts.g0,
+        products: 0,
+        some_one: None,
+    }
 }
 
 /// d1, and the radius for the plate by document 02, request 3: half of d1 - 1, or half of
@@ -128,29 +158,38 @@ pub fn d1(sheet: &Sheet, cap: u32) -> Result<Answer, Refusal> {
 
 /// The measurement of d1: "the least weight of a codeword with a message other than 0".
 pub fn measured_d1(parts: &Parts, cap: u32) -> Result<Measured, Refusal> {
-    measure(parts, cap, |word| {
-        is_codeword(parts, word) && message_of(parts, word) != 0
-    })
+    let is_hit = |word| is_hit_of_d1(parts, word);
+    measure(parts.n, cap, is_hit, &wanted_of_d1(parts))
+}
+
+/// Whether a word is one that d1 is the least weight of.
+fn is_hit_of_d1(parts: &Parts, word: Word) -> bool {
+    is_codeword(parts, word) && message_of(parts, word) != 0
+}
+
+/// d1 wants the words whose product with each row of H is 0, and with some row of M 1.
+fn wanted_of_d1<'a>(parts: &Parts<'a>) -> Wanted<'a> {
+    Wanted {
+        rows: parts.h,
+        products: 0,
+        some_one: Some(parts.m),
+    }
 }
 
 /// "A measurement takes a cap of 1 to 8 and tries listed words from weight 1 up to the
 /// cap": refusal 11, the first hit and its place, or the length of the list.
-fn measure(parts: &Parts, cap: u32, hit: impl Fn(Word) -> bool) -> Result<Measured, Refusal> {
+fn measure(
+    n: u32,
+    cap: u32,
+    is_hit: impl Fn(Word) -> bool,
+    wanted: &Wanted,
+) -> Result<Measured, Refusal> {
     if !(1..=8).contains(&cap) {
         return Err(bare(11));
     }
-    let mut tried = 0;
-    for word in listed(parts.n, 1, cap) {
-        tried += 1;
-        if hit(word) {
-            let distance = Some(word.count_ones());
-            return Ok(Measured { distance, tried });
-        }
-    }
-    Ok(Measured {
-        distance: None,
-        tried,
-    })
+    let Found { hit, tried } = first_hit(n, [1, cap], is_hit, wanted);
+    let distance = hit.map(Word::count_ones);
+    Ok(Measured { distance, tried })
 }
 
 #[cfg(test)]

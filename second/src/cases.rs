@@ -1,8 +1,10 @@
 //! Cases repeatable from a seed: good calls, on pages and whole ones, to open them, about
-//! tables and others, calls with broken sheets or odd arguments, and lines that are no calls.
+//! tables and others, distant ones, calls with broken sheets or odd arguments, and lines that
+//! are no calls.
 
 use crate::asking::{any_call, call_text, far_sheet, good_call, Verb};
 use crate::breaking::broken_sheet;
+use crate::distant::distant_call;
 use crate::filling::whole_call;
 use crate::making::some_sheet;
 use crate::noise::noise_line;
@@ -18,15 +20,23 @@ use std::io::{self, Write};
 /// One call in so many measures, and may go through millions of words.
 const BIG_EVERY: u64 = 2_000;
 
-/// Prints so many lines.
+/// One line in so many, in the place of another one, is a call over 33 to 64 cells with a list
+/// of any length.
+const DISTANT_EVERY: u64 = 1_000;
+
+/// Prints so many lines. Those with lists of any length come from numbers of their own.
 pub fn print_cases(seed: u64, count: u64, mut output: impl Write) -> io::Result<()> {
     let mut random = Random::new(seed);
+    let mut random_of_distant = Random::new(!seed);
     for index in 0..count {
-        let line = if index % BIG_EVERY == BIG_EVERY / 2 {
+        let mut line = if index % BIG_EVERY == BIG_EVERY / 2 {
             big_measurement(&mut random).into_bytes()
         } else {
             case_line(&mut random)
         };
+        if index % DISTANT_EVERY == DISTANT_EVERY / 4 {
+            line = distant_call(&mut random_of_distant).into_bytes();
+        }
         output.write_all(&line)?;
         output.write_all(b"\n")?;
     }
@@ -124,13 +134,14 @@ mod tests {
         }
     }
 
-    /// No call goes through a list that is longer than any may be, and few go through one
-    /// that is longer than the rule has it. Opening a page goes through that of d1 at cap 8.
+    /// Few calls go through a list that is longer than the rule has it, and none but the
+    /// distant ones through one that is longer than any other may be. Opening a page goes
+    /// through that of d1 at cap 8.
     #[test]
     fn lists_gone_through() {
         let mut output = Vec::new();
         print_cases(3, 4_000, &mut output).expect("cases");
-        let lines = output.split(|byte| *byte == b'\n');
+        let lines = output.split(|byte| *byte == b'\n').enumerate();
         let length = |line: &[u8]| -> Option<u64> {
             let answer = match line.strip_prefix(b"open ") {
                 Some(sheet) => answer_line(&[b"d1 ", sheet, b" 8"].concat())?,
@@ -141,9 +152,35 @@ mod tests {
                 .or(answer.split_once("refused 12 "))?;
             after.split(' ').next()?.parse().ok()
         };
-        let lengths: Vec<u64> = lines.filter_map(length).collect();
+        let is_distant = |place: &usize| place % 1_000 == 250;
+        let (distant, others): (Vec<_>, Vec<_>) = lines.partition(|(at, _)| is_distant(at));
+        let lengths = |lines: Vec<(usize, &[u8])>| -> Vec<u64> {
+            let answered = lines.into_iter().filter_map(|(_, line)| length(line));
+            answered.collect()
+        };
+        let (distant, lengths) = (lengths(distant), lengths(others));
         let longer = |limit: u64| lengths.iter().filter(|length| **length > limit).count();
         assert!(lengths.len() > 800 && longer(20_000_000) == 0);
         assert!(longer(700_000) <= 4 && (1..30).contains(&longer(50_000)));
+        assert!(distant.len() == 4 && distant.iter().max() > Some(&20_000_000));
+    }
+
+    /// But for the distant calls the lines are those of the seed's numbers: an equal seed with
+    /// another number of lines begins with the same ones, and each distant one is a call.
+    #[test]
+    fn distant_calls_among_the_lines() {
+        let cases = |count| {
+            let mut output = Vec::new();
+            print_cases(5, count, &mut output).expect("cases");
+            output
+        };
+        let (all, some) = (cases(1_300), cases(300));
+        assert_eq!(all[..some.len()], some);
+        let lines: Vec<&[u8]> = all.split(|byte| *byte == b'\n').collect();
+        for line in [lines[250], lines[1_250]] {
+            let verb = line.split(|byte| *byte == b' ').next();
+            let verbs: [&[u8]; 3] = [b"d0", b"d1", b"open"];
+            assert!(verbs.contains(&verb.expect("a verb")));
+        }
     }
 }

@@ -82,6 +82,14 @@ pub fn tower() -> Sheet {
     Sheet { n, k, l, rows }
 }
 
+/// The loft sheet for any n, the attic's for 3: every word is a codeword, and d0 is n.
+pub fn loft(n: u32) -> Sheet {
+    let g0 = (1..n).map(|cell| 1 | 1 << cell);
+    let rows = [1].into_iter().chain(g0).chain([all_ones(n)]).collect();
+    let (k, l) = (1, n - 1);
+    Sheet { n, k, l, rows }
+}
+
 /// The sheet of n cells with two codewords, all zeros and all ones: d1 is n.
 pub fn repeating(n: u32) -> Sheet {
     let checks = (1..n).map(|cell| 3 << (cell - 1));
@@ -126,13 +134,19 @@ pub fn sheet_of_numbers(random: &mut Random, n: u32, k: u32, l: u32) -> Sheet {
 /// A random admitted sheet that begins with these tables for n, k and l. It has the code
 /// that they give, but for the order of the cells.
 pub fn sheet_of_tables(random: &mut Random, nkl: [u32; 3], tables: &Tables) -> Sheet {
-    let n = nkl[0];
-    let steps = random.one_of(&[0, n, 4 * n, 8 * n]);
-    let mut sheet = stepped(random, nkl, tables, steps, mix);
+    let mut sheet = sheet_in_order(random, nkl, tables);
     if !random.once_in(6) {
-        permute_cells(random, n, &mut sheet.rows);
+        permute_cells(random, sheet.n, &mut sheet.rows);
     }
     sheet
+}
+
+/// A random admitted sheet that begins with these tables for n, k and l, and has the code that
+/// they give.
+pub fn sheet_in_order(random: &mut Random, nkl: [u32; 3], tables: &Tables) -> Sheet {
+    let n = nkl[0];
+    let steps = random.one_of(&[0, n, 4 * n, 8 * n]);
+    stepped(random, nkl, tables, steps, mix)
 }
 
 /// A sheet with these n, k and l that has gone so many steps from the first form of these
@@ -236,7 +250,7 @@ fn add_from(random: &mut Random, to: &mut [Word], from: &[Word]) {
 }
 
 /// Puts the cells of all rows in one other order.
-fn permute_cells(random: &mut Random, n: u32, rows: &mut [Word]) {
+pub fn permute_cells(random: &mut Random, n: u32, rows: &mut [Word]) {
     let mut places: Vec<u32> = (0..n).collect();
     for i in (1..n as usize).rev() {
         places.swap(i, random.below(i as u64 + 1) as usize);

@@ -4,7 +4,7 @@
 use crate::random::Random;
 use crate::word::Word;
 
-/// The longest list of any call.
+/// The longest list of any call, but for the distant ones.
 const LONGEST_LIST: u64 = 20_000_000;
 
 /// The longest list that a call has to go through, as a rule, on more than 20 cells.
@@ -26,7 +26,8 @@ pub fn list_length(n: u32, weight: u32) -> u64 {
     length
 }
 
-/// The highest cap over n cells whose list is no longer than any may be.
+/// The highest cap over n cells whose list is no longer than any may be, but for the distant
+/// ones.
 pub fn highest_cap(n: u32) -> u32 {
     let mut caps = (1..=8).rev();
     let fits = |cap: &u32| list_length(n, *cap) <= LONGEST_LIST;

@@ -1,13 +1,17 @@
 //! Tests of the calls: two ways to the smallest d, the words of a message, and the
-//! printed radius, by brute force on small sheets.
+//! printed radius, by brute force on small sheets. Those of the two ways to the first hit are
+//! in `ways`.
 
 use super::*;
 use crate::asking::{far_sheet, Verb};
 use crate::every::every_sheet;
+use crate::listing::listed;
 use crate::making::{attic, cellar, kitchen, random_sheet, repeating};
 use crate::random::Random;
 use crate::word::all_ones;
 use std::collections::BTreeSet;
+
+mod ways;
 
 /// Both ways to the smallest d agree, whether the levels are those of a word or not.
 #[test]

@@ -17,7 +17,7 @@ fn pages_opened() {
     ] {
         assert_eq!(answered(&format!("open {sheet}")).as_deref(), Some(wanted));
     }
-    for n in 1..=20 {
+    for n in (1..=20).chain([33, 64]) {
         let wanted = format!("number {}", n.min(9));
         let line = format!("open {}", sheet_text(&repeating(n)));
         assert_eq!(answered(&line), Some(wanted));
@@ -159,8 +159,8 @@ fn wrong_villages() {
     assert!(wrong > 0);
 }
 
-/// Calls go by the number that they are handed: on 64 cells, of which the plate would take
-/// minutes to measure, they are answered at once, and with a number that is wrong too.
+/// Calls go by the number that they are handed: on 64 cells and with the right number, 9, and
+/// with a number that is wrong too.
 #[test]
 fn numbers_are_not_measured() {
     let sheet = sheet_text(&repeating(64));

@@ -1,8 +1,8 @@
-//! Tests of whole lines about words of 64 cells: the bench sheet of request 5, the lengths of
-//! lists, numbers at the edges of 32 and 64 bits, and what n may be.
+//! Tests of whole lines about words of 64 cells: the bench sheets of request 5, the lengths of
+//! lists, places in them past 2^32, numbers at the edges of 32 and 64 bits, and what n may be.
 
 use super::*;
-use crate::making::{repeating, tower};
+use crate::making::{loft, repeating, tower};
 
 /// The tower sheet's rows, by its own account.
 #[test]
@@ -78,6 +78,89 @@ fn bench_cases_of_the_tower() {
             Some(wanted),
             "{verb}{arguments}"
         );
+    }
+}
+
+/// The loft sheet's rows by its own account, and the lists over 64 cells that are gone through
+/// to their end: that of d0 on it, that of d1 where the codewords are all zeros and all ones,
+/// whose pages are opened with number 9.
+#[test]
+fn bench_cases_of_the_loft() {
+    let power = |i: u32| 2u128.pow(i);
+    let g0 = (1..64).map(|i| 1 + power(i));
+    let rows = [1].into_iter().chain(g0).chain([power(64) - 1]);
+    let rows: Vec<String> = rows.map(|row| row.to_string()).collect();
+    let sheet = format!("64 1 63 65 {}", rows.join(" "));
+    assert_eq!(sheet_text(&loft(64)), sheet);
+    let far = sheet_text(&repeating(64));
+    for (line, wanted) in [
+        (format!("d0 {sheet} 8"), "more tried 5130659560"),
+        (format!("d0 {sheet} 7"), "more tried 704494192"),
+        (format!("d0 {sheet} 5"), "more tried 8303632"),
+        (format!("d1 {sheet} 8"), "distance 1 tried 1 radius 0"),
+        (format!("open {sheet}"), "number 1"),
+        (format!("d1 {far} 8"), "more tried 5130659560 radius 4"),
+        (format!("d1 {far} 6"), "more tried 83278000 radius 3"),
+        (format!("d0 {far} 8"), "distance 1 tried 1"),
+        (format!("open {far}"), "number 9"),
+    ] {
+        assert_eq!(answered(&line).as_deref(), Some(wanted), "{line}");
+    }
+}
+
+/// Words over 64 cells and their places in the list begun at weight 1: the ends of weight 7 and
+/// of weight 8, the three places at 2^32, and where cell 63 comes in.
+const PLACES: [(Word, u64); 8] = [
+    (127, 83_278_001),
+    (127 << 57, 704_494_192),
+    (255, 704_494_193),
+    (4_647_723_646_446_485_504, 4_294_967_295),
+    (4_647_723_646_446_501_888, 4_294_967_296),
+    (4_647_723_646_446_534_656, 4_294_967_297),
+    (1 << 63 | 127, 4_577_388_890),
+    (255 << 56, 5_130_659_560),
+];
+
+/// 63 rows over 64 cells with which this word alone, and 0, has product 0: the cells that it
+/// has not, and any two that follow each other among its own.
+fn checks_of(word: Word) -> Vec<Word> {
+    let (own, others): (Vec<u32>, Vec<u32>) = (0..64).partition(|cell| word >> cell & 1 == 1);
+    let pairs = own.windows(2).map(|pair| 1 << pair[0] | 1 << pair[1]);
+    others.iter().map(|cell| 1 << cell).chain(pairs).collect()
+}
+
+/// A word that alone is a hit is found at its place: for d1 it is the one codeword but 0, and
+/// for d0 the one word but 0 whose product with each row of G0 is 0. A cap below its weight
+/// does not reach it.
+#[test]
+fn places_past_32_bits() {
+    for (word, place) in PLACES {
+        let weight = word.count_ones();
+        let (checks, highest) = (checks_of(word), 1 << word.ilog2());
+        let rows = [vec![word], checks.clone(), vec![highest]].concat();
+        let of_d1 = format!("64 1 0 {}", list_text(&rows));
+        let rows = [vec![highest], checks, vec![word]].concat();
+        let of_d0 = format!("64 1 63 {}", list_text(&rows));
+        let lighter = [83_278_000, 704_494_192][weight as usize - 7];
+        let (below, radius) = (weight - 1, (weight - 1) / 2);
+        for (line, wanted) in [
+            (format!("admit {of_d0}"), "admitted".to_string()),
+            (
+                format!("d0 {of_d0} 8"),
+                format!("distance {weight} tried {place}"),
+            ),
+            (
+                format!("d1 {of_d1} 8"),
+                format!("distance {weight} tried {place} radius {radius}"),
+            ),
+            (format!("open {of_d1}"), format!("number {weight}")),
+            (
+                format!("d0 {of_d0} {below}"),
+                format!("more tried {lighter}"),
+            ),
+        ] {
+            assert_eq!(answered(&line), Some(wanted), "{line}");
+        }
     }
 }
 
