@@ -92,6 +92,8 @@ pub struct Row {
     pub sheets: String,
     pub call: &'static str,
     pub cases: Vec<Case>,
+    /// Whether `plain` takes part.
+    pub stepped: bool,
 }
 
 /// The sizes of a family of sheets: n, k and l.
@@ -111,6 +113,19 @@ fn row(
         sheets: format!("n {n}, k {k}, l {l}"),
         call,
         cases,
+        stepped: true,
+    }
+}
+
+/// The same for a list that `plain`, which steps through it, would take many minutes for.
+fn row_unstepped(
+    sizes: Sizes,
+    call: &'static str,
+    draw: impl Fn(Sizes, &mut Random) -> Case,
+) -> Row {
+    Row {
+        stepped: false,
+        ..row(sizes, call, 1, draw)
     }
 }
 
@@ -233,6 +248,16 @@ pub fn rows() -> Vec<Row> {
     rows.push(row((32, 2, 24), "d0, cap 8, more", 1, more(d0(CAP))));
     rows.push(row((32, 4, 2), "d1, cap 8, more", 1, more(d1(CAP))));
     rows.push(row((WIDTH, 8, 4), "d1, cap 5, more", 1, more(d1(WIDE_CAP))));
+    rows.push(row_unstepped(
+        (WIDTH, 4, 56),
+        "d0, cap 8, more",
+        more(d0(CAP)),
+    ));
+    rows.push(row_unstepped(
+        (WIDTH, 8, 4),
+        "d1, cap 8, more",
+        more(d1(CAP)),
+    ));
     rows.extend(page_rows(wide));
     rows
 }

@@ -17,8 +17,17 @@ use inputs::{Case, Row};
 use std::io::Write;
 use std::process::ExitCode;
 
-/// The programs, the store first.
-const PROGRAMS: [&dyn Calls; 3] = [&store::Store, &plain::Plain, &fast::Fast];
+/// The programs, the store first, and last the one that is left out where a list is too long to be stepped through.
+const PROGRAMS: [&dyn Calls; 3] = [&store::Store, &fast::Fast, &plain::Plain];
+
+/// The programs that a row's calls are made of.
+fn programs(row: &Row) -> &'static [&'static dyn Calls] {
+    if row.stepped {
+        &PROGRAMS
+    } else {
+        &PROGRAMS[..2]
+    }
+}
 
 /// How many calls at random the answers are compared on, beside those that are timed.
 const COMPARED: usize = 6000;
@@ -33,24 +42,25 @@ const HEAD: &str = "\
 ";
 
 /// The first of the calls that the programs do not answer alike.
-fn first_difference(cases: &[Case]) -> Option<&Case> {
+fn first_difference<'a>(cases: &'a [Case], programs: &[&dyn Calls]) -> Option<&'a Case> {
     cases.iter().find(|case| {
-        let answer = case.answer(PROGRAMS[0]);
-        PROGRAMS.iter().any(|by| case.answer(*by) != answer)
+        let answer = case.answer(programs[0]);
+        programs[1..].iter().any(|by| case.answer(*by) != answer)
     })
 }
 
 /// A call that is not answered alike, and all answers to it.
-fn show_difference(case: &Case) {
+fn show_difference(case: &Case, programs: &[&dyn Calls]) {
     eprintln!("bench: answers differ: {case:?}");
-    for by in PROGRAMS {
-        eprintln!("  {:6} {:?}", by.name(), case.answer(by));
+    for by in programs {
+        eprintln!("  {:6} {:?}", by.name(), case.answer(*by));
     }
 }
 
-/// A time in nanoseconds, in the unit that suits it.
+/// A time in nanoseconds, in the unit that suits it; a dash where none was taken.
 fn show_time(t: f64) -> String {
     match t {
+        t if t.is_infinite() => "-".to_string(),
         t if t < 1e3 => format!("{t:.0} ns"),
         t if t < 1e6 => format!("{:.2} µs", t / 1e3),
         t if t < 1e9 => format!("{:.2} ms", t / 1e6),
@@ -58,19 +68,23 @@ fn show_time(t: f64) -> String {
     }
 }
 
-/// A ratio, to two digits or all of its whole part.
+/// A ratio, to two digits or all of its whole part; a dash to a time that was not taken.
 fn show_ratio(x: f64) -> String {
+    if x == 0.0 {
+        return "-".to_string();
+    }
     let decimals = (1.0 - x.log10().floor()).clamp(0.0, 4.0) as usize;
     format!("{x:.decimals$}")
 }
 
-/// The least time of a pass over a row's calls, for each row and program. The whole table is gone through several times, so that
+/// The least time of a pass over a row's calls, for each row and program, or infinity where it is not asked. The whole table is gone through several times, so that
 /// a slow spell of the machine does not fall on one row alone.
 fn timed(rows: &mut [Row]) -> Vec<[f64; 3]> {
     let mut best = vec![[f64::INFINITY; 3]; rows.len()];
     for _ in 0..SWEEPS {
         for (least, row) in best.iter_mut().zip(rows.iter_mut()) {
-            clock::improve(least, &mut row.cases, &PROGRAMS);
+            let by = programs(row);
+            clock::improve(&mut least[..by.len()], &mut row.cases, by);
         }
     }
     best
@@ -80,9 +94,10 @@ fn timed(rows: &mut [Row]) -> Vec<[f64; 3]> {
 fn show_row(row: &Row, times: &[f64; 3]) -> String {
     let calls = row.cases.len();
     let tried = row.cases.iter().map(Case::tried).sum::<u64>() / calls as u64;
+    let [store, fast, plain] = *times;
     let mut cells = vec![row.sheets.clone(), row.call.to_string(), tried.to_string()];
-    cells.extend(times.iter().map(|t| show_time(t / calls as f64)));
-    cells.extend(times[1..].iter().map(|t| show_ratio(times[0] / t)));
+    cells.extend([store, plain, fast].map(|t| show_time(t / calls as f64)));
+    cells.extend([plain, fast].map(|t| show_ratio(store / t)));
     format!("| {} |\n", cells.join(" | "))
 }
 
@@ -108,9 +123,10 @@ fn main() -> ExitCode {
     }
     let mut g = sheets::Random(1);
     let random: Vec<Case> = (0..COMPARED).map(|_| inputs::any_case(&mut g)).collect();
-    for cases in rows.iter().map(|row| &row.cases).chain([&random]) {
-        if let Some(case) = first_difference(cases) {
-            show_difference(case);
+    let compared = rows.iter().map(|row| (&row.cases, programs(row)));
+    for (cases, by) in compared.chain([(&random, &PROGRAMS[..])]) {
+        if let Some(case) = first_difference(cases, by) {
+            show_difference(case, by);
             return ExitCode::FAILURE;
         }
     }

@@ -2,7 +2,7 @@
 // the lowest cell, and the cells at n or above.
 #![tactic(auto)]
 
-ghost use Rattle.std.specs.Prelude.{◌≡◌, ◌%◌, ◌^◌, ◌≤◌, ◌<◌, eqb, ltb, length};
+ghost use Rattle.std.specs.Prelude.{◌≡◌, ◌+◌, ◌%◌, ◌^◌, ◌≤◌, ◌<◌, eqb, ltb, length, MatchOption};
 ghost use Rattle.paper.specs.First.{first};
 ghost use Rattle.paper.specs.Words.{width, cell, weight, product, products, sum, ◌⊕◌};
 ghost use Rattle.words.specs.Places.{as_first};
@@ -61,6 +61,16 @@ pub fn lowest_of(x: Word) -> Option<u32>
         None
     } else {
         Some(u64::trailing_zeros(x))
+    }
+}
+
+// The highest cell of a word that is 1, or that all are 0.
+pub fn highest_of(x: Word) -> Option<u32>
+    ensures { MatchOption result (x ≡ 0) (λ top. (top < width) × (2 ^ top ≤ x) × (x < 2 ^ (top + 1))) }
+{
+    match x {
+        0 => None,
+        _ => Some(WIDTH - 1 - u64::leading_zeros(x)),
     }
 }
 
