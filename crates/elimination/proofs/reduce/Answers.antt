@@ -20,7 +20,8 @@ pub overflow_mul-choice : goal.overflow_mul-choice
 overflow_mul-choice c =
     let l = c.loop-row in
     let k : Reduced = get_or c.args.kept.now l.row-index (record { rest = 0; choice = 0 }) in
-    rw c.taken_of-taken.ensures (omega (arith, taken-fits k.rest l.rest k.choice (2 ^ 64) (search rules)))
+    rw c.taken_of-taken.ensures
+    (omega (arith, taken-fits k.rest l.rest k.rest (2 ^ 64) (search rules), taken-fits k.rest l.rest k.choice (2 ^ 64) (search rules)))
 
 pub loop-row-preserved : goal.loop-row-preserved
 unfolding ◌⊕◌ added
