@@ -156,7 +156,7 @@ on own gs others i j e l = go (eqb (product (get_or gs i 0) (get_or others j 0))
     go true q = eqb-true _ _ q
     go false q = absurd (true≢false (sym (ap not q) ∙ any-all _ (length others) j e l))
 
-own-wanted : (own i : ℕ) → wanted own i i ≡ own
+pub own-wanted : (own i : ℕ) → wanted own i i ≡ own
 own-wanted own i = ap (λ (b : Bool). cond b own 0) (eq-eqb i i refl)
 
 pub no-wanted : (own i j : ℕ) → (i ≡ j → ⊥) → wanted own i j ≡ 0

@@ -1,11 +1,11 @@
 // Admitting a sheet: refusals 1 to 6 of document 01, in the order of its table.
 #![tactic(auto)]
 
-ghost use Rattle.std.specs.Prelude.{◌≡◌, [], ◌+◌, ◌*◌, ◌^◌, ◌≤◌, leb, length, get_or, take, drop, IfOk};
-ghost use Rattle.paper.specs.First.{first};
+ghost use Rattle.std.specs.Prelude.{◌≡◌, not, [], ◌+◌, ◌*◌, ◌^◌, ◌≤◌, ◌<◌, eqb, leb, length, get_or, take, drop, IfOk};
+ghost use Rattle.paper.specs.First.{first, any};
 ghost use Rattle.paper.specs.Refusals.{answer, verdict};
 ghost use Rattle.paper.specs.Sheet.{r, G1, G0, H, M, shaped, wanted, off, judged_sums, judged_rows, admits};
-ghost use Rattle.paper.specs.Words.{width};
+ghost use Rattle.paper.specs.Words.{width, product};
 ghost use Rattle.words.specs.Places.{as_first};
 ghost use Rattle.sheet.specs.Sound.{Shaped};
 
@@ -56,11 +56,56 @@ fn wanted_of(own: Word, i: usize, j: usize) -> Word
     if i == j { own } else { 0 }
 }
 
-// "the first row in sheet order at which the rule breaks": the loops over the rows of G and of H or M are left at the first breaking pair.
+// Whether x has product 1 with one of the rows. All are gone over, with no branch for each, so that the compiler takes several at once.
+fn has_odd(rows: &[Word], x: Word) -> bool
+    ensures { result ≡ any (length rows.now) (λ j. not (eqb (product x (get_or rows.now j 0)) 0)) }
+{
+    let mut odd: Word = 0;
+    for row in rows {
+        odd |= product_of(x, *row);
+    }
+    odd != 0
+}
+
+// Whether row i breaks the rule: where none of the others has its number, or own is 0, 0 is wanted with them all, and else with those before row i of them and those behind it.
+fn is_off(own: Word, gs: &[Word], others: &[Word], i: usize) -> bool
+    requires { i < length gs.now }
+    ensures { result ≡ off own gs.now others.now i }
+{
+    let g = gs[i];
+    if others.len() <= i || own == 0 {
+        return has_odd(others, g);
+    }
+    let before = has_odd(&others[..i], g);
+    let behind = has_odd(&others[i + 1..], g);
+    before | (product_of(g, others[i]) != own) | behind
+}
+
+// Whether some row breaks the rule. It is not inlined, so that in `find_off` the loops, which alone judge few others, have the registers to themselves.
+#[inline(never)]
+fn any_off(own: Word, gs: &[Word], others: &[Word]) -> bool
+    ensures { result ≡ any (length gs.now) (off own gs.now others.now) }
+{
+    for i in 0..gs.len() {
+        if is_off(own, gs, others, i) {
+            return true;
+        }
+    }
+    false
+}
+
+// With no more others than these, going over the pairs alone is as quick.
+const FEW: usize = 7;
+
+// "the first row in sheet order at which the rule breaks": the loops over the rows of G and of H or M are left at the first breaking pair. Where the others are more than a few, it is first asked
+// whether any row breaks the rule, since that takes less time than to find where, and of an admitted sheet it is all.
 fn find_off(own: Word, gs: &[Word], others: &[Word]) -> Option<u32>
     requires { length gs.now ≤ width }
     ensures { as_first result ≡ first (length gs.now) (off own gs.now others.now) }
 {
+    if FEW < others.len() && !any_off(own, gs, others) {
+        return None;
+    }
     'rows: {
         for (i, g) in gs.iter().enumerate() {
             for (j, other) in others.iter().enumerate() {
