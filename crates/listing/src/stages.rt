@@ -37,7 +37,8 @@ fn sweep_marked(
     sweep(&marked, n, from, end, sum, start)
 }
 
-// The weights from 7 on, with marks for the words of weight up to 3 in 128 KB.
+// The weights from 7 on, with marks for the words of weight up to 3 in 128 KB. Neither this nor the next is inlined, so that a search that ends before does not have its room on the stack.
+#[inline(never)]
 fn search_far(asked: &Asked, n: u32, from: u32, end: u32, sum: Word, start: Count) -> Found
     requires few { (n ≤ width) × (n ≤ length asked.now.cols.now) × (from ≤ end) × (end ≤ width) }
     requires room { start + length (weights n from (end - from)) < 2 ^ width }
@@ -47,23 +48,20 @@ fn search_far(asked: &Asked, n: u32, from: u32, end: u32, sum: Word, start: Coun
     sweep_marked(&mut room, 3, asked, n, from, end, sum, start)
 }
 
-// The weights to 6, with marks for those up to 2 in 8 KB, and then the rest. It calls itself, and not `search_far`, for the rest, so that a read does not have that room on its
-// stack: the compiler puts no function that calls itself into another.
+// The weights to 6, with marks for those up to 2 in 8 KB, and then the rest.
+#[inline(never)]
 fn search_middle(asked: &Asked, n: u32, from: u32, end: u32, sum: Word, start: Count) -> Found
     requires few { (n ≤ width) × (n ≤ length asked.now.cols.now) × (from ≤ end) × (end ≤ width) }
     requires room { start + length (weights n from (end - from)) < 2 ^ width }
     ensures { searched result ≡ search (test asked.now sum) start (weights n from (end - from)) }
 {
-    if 7 <= from {
-        return search_far(asked, n, from, end, sum, start);
-    }
-    let stop = end.min(7);
+    let stop = end.min(7).max(from);
     let mut room: [Word; 1024] = [0; 1024];
     let got = sweep_marked(&mut room, 2, asked, n, from, stop, sum, start);
     if got.z.is_some() || stop == end {
         return got;
     }
-    search_middle(asked, n, stop, end, sum, got.tried)
+    search_far(asked, n, stop, end, sum, got.tried)
 }
 
 // The weights to 2, with marks for the words of weight up to 1 in 1 KB, and then the rest.
