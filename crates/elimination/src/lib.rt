@@ -9,7 +9,7 @@ ghost use Rattle.paper.specs.First.{first};
 ghost use Rattle.paper.specs.Words.{width, sum};
 ghost use Rattle.paper.specs.Sheet.{dependent};
 ghost use Rattle.words.specs.Places.{as_first};
-ghost use Rattle.elimination.specs.Kept.{taken, reduced, kept_rows, masked};
+ghost use Rattle.elimination.specs.Kept.{reduced, kept_rows, masked};
 
 use paper::{WIDTH, Word};
 use words::{ALL_CELLS, cell_of, highest_of};
@@ -24,17 +24,8 @@ struct Reduced {
     choice: Word,
 }
 
-// 1 if adding p makes x smaller, which is where x has p's highest cell, else 0: by a shift, since a test of the two would be a branch, which is guessed wrong every other time.
-fn taken_of(p: Word, x: Word) -> Word
-    ensures { result ≡ taken p x }
-{
-    match highest_of(p) {
-        Some(top) => (x >> top) % 2,
-        None => 0,
-    }
-}
-
-// x with each kept row added in turn where that makes it smaller: where it has the highest cell of the row's word.
+// x with each kept row added in turn where that makes it smaller: where it has the highest cell of the row's word. Whether it has is a shift and a product: a test of the two would be
+// a branch, which is guessed wrong every other time.
 fn reduce(kept: &[Reduced], x: Word) -> Reduced
     ensures { result ≡ reduced kept.now x }
 {
@@ -42,7 +33,10 @@ fn reduce(kept: &[Reduced], x: Word) -> Reduced
     let mut choice: Word = 0;
     for row in kept {
         let kept_row = *row;
-        let taken = taken_of(kept_row.rest, rest);
+        let Some(top) = highest_of(kept_row.rest) else {
+            continue;
+        };
+        let taken = (rest >> top) % 2;
         rest ^= taken * kept_row.rest;
         choice ^= taken * kept_row.choice;
     }
